@@ -1,0 +1,6 @@
+pub mod TrapCode
+pub mod Event
+pub mod Walk
+pub mod Buffer
+pub mod Translate
+pub mod Held
