@@ -15,7 +15,7 @@ use Rattle.paging.specs.declared.Answer.the-variants.{At, Denied}
 use Rattle.paging.specs.TrapCode.{FMEM}
 use Rattle.paging.specs.Event.{Event, emptied}
 use Rattle.paging.specs.Walk.{Found, fault, found, Walked, walk}
-use Rattle.paging.specs.Buffer.{hit, afterWalk, walkEvents}
+use Rattle.paging.specs.Buffer.{hit, afterWalk, walkEvents, bufferOk}
 
 -- an access: what for, its size in bytes, the address asked, and the mode it is made in
 pub record Request : Type 0 where
@@ -34,11 +34,12 @@ pub record Outcome (B A : Type 0) : Type 0 where
 abbrev pub outcome : {B A : Type 0} → A → List ℕ → B → List Event → Outcome B A
 outcome a m b es = record { answer = a; mem = m; buffer = b; events = es }
 
--- a way to translate; and what PDIR and SPAG do to what it holds, with the events of that
+-- a way to translate; what PDIR and SPAG do to what it holds, with the events of that; and refusal 3's judgement of it, for a memory size
 pub record Translator (B : Type 0) : Type 0 where
   pub translate : Space → Request → List ℕ → B → Outcome B Answer
   pub empty : B → B
   pub emptyEvents : List Event
+  pub accepts : ℕ → B → Bool
 
 -- ---- answers
 
@@ -89,9 +90,10 @@ buffered = record {
   translate = λ s q m es. translateBy (s .paging) (s .pdir) q m es;
   empty = λ es. [];
   emptyEvents = emptied ∷ [];
+  accepts = bufferOk;
 }
 
--- ---- the table reader (document 01's term): "each access walks from pdir", "and no entry is kept"
+-- ---- the table reader (document 01's term): "each access walks from pdir", "and no entry is kept"; "3 never comes"
 
 unfoldable pub walkedBy : Request → Walked → Outcome (Unit {0}) Answer
 unfolding answerOf
@@ -107,4 +109,5 @@ reader = record {
   translate = λ s q m b. readBy (s .paging) (s .pdir) q m;
   empty = λ b. b;
   emptyEvents = [];
+  accepts = λ size b. true;
 }
