@@ -1,0 +1,12 @@
+pub mod Record
+pub mod Tree
+pub mod Outcome
+pub mod Arithmetic
+pub mod Transfer
+pub mod Jump
+pub mod Block
+pub mod Execute
+pub mod Trap
+pub mod System
+pub mod Clock
+pub mod Step

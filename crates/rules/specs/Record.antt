@@ -1,0 +1,110 @@
+-- Document 01, "The record and the loaded program": its numbers for the stop reasons, and the record with one part put in place.
+use Prim.Native.Nat.{ℕ, _+_}
+use mathlib.Core.Bool.{Bool, true, false}
+use Rattle.word.specs.Word.{cut}
+use Rattle.paging.specs.declared.Space.{Space}
+use Rattle.rules.specs.declared.Regs.{Regs}
+use Rattle.rules.specs.declared.Clock.{Clock}
+use Rattle.rules.specs.declared.System.{System}
+use Rattle.rules.specs.declared.Stop.{Stop}
+use Rattle.rules.specs.declared.Stop.the-variants.{Running, Halted, Masked, NoFrame}
+use Rattle.rules.specs.declared.Cpu.{Cpu}
+
+-- "Stop reasons: 0 running, 1 halted, 2 trap while iena = 0, 3 trap frame cannot be stored"
+abbrev pub stopNumber : Stop → ℕ
+stopNumber Running = 0
+stopNumber Halted = 1
+stopNumber Masked = 2
+stopNumber NoFrame = 3
+
+abbrev pub isRunning : Stop → Bool
+isRunning Running = true
+isRunning Halted = false
+isRunning Masked = false
+isRunning NoFrame = false
+
+-- ---- the registers of ordinary instructions
+
+abbrev pub withA : ℕ → Regs → Regs
+withA x r = record { a = x; b = r .b; c = r .c; sp = r .sp; pc = r .pc; count = r .count }
+
+abbrev pub withB : ℕ → Regs → Regs
+withB x r = record { a = r .a; b = x; c = r .c; sp = r .sp; pc = r .pc; count = r .count }
+
+abbrev pub withC : ℕ → Regs → Regs
+withC x r = record { a = r .a; b = r .b; c = x; sp = r .sp; pc = r .pc; count = r .count }
+
+abbrev pub withSp : ℕ → Regs → Regs
+withSp x r = record { a = r .a; b = r .b; c = r .c; sp = x; pc = r .pc; count = r .count }
+
+abbrev pub withPc : ℕ → Regs → Regs
+withPc x r = record { a = r .a; b = r .b; c = r .c; sp = r .sp; pc = x; count = r .count }
+
+abbrev pub withCount : ℕ → Regs → Regs
+withCount x r = record { a = r .a; b = r .b; c = r .c; sp = r .sp; pc = r .pc; count = x }
+
+-- "sp, usp and ksp, set by any instruction, drop their low three bits, pc and ivec their low two"
+abbrev pub setSp : ℕ → Regs → Regs
+setSp x r = withSp (cut 8 x) r
+
+abbrev pub setPc : ℕ → Regs → Regs
+setPc x r = withPc (cut 4 x) r
+
+-- ---- the groups of the record
+
+abbrev pub withRegs : Regs → Cpu → Cpu
+withRegs r c = record { regs = r; clock = c .clock; vadr = c .vadr; space = c .space; system = c .system; stop = c .stop; written = c .written }
+
+abbrev pub withClock : Clock → Cpu → Cpu
+withClock k c = record { regs = c .regs; clock = k; vadr = c .vadr; space = c .space; system = c .system; stop = c .stop; written = c .written }
+
+abbrev pub withVadr : ℕ → Cpu → Cpu
+withVadr x c = record { regs = c .regs; clock = c .clock; vadr = x; space = c .space; system = c .system; stop = c .stop; written = c .written }
+
+abbrev pub withSpace : Space → Cpu → Cpu
+withSpace s c = record { regs = c .regs; clock = c .clock; vadr = c .vadr; space = s; system = c .system; stop = c .stop; written = c .written }
+
+abbrev pub withSystem : System → Cpu → Cpu
+withSystem y c = record { regs = c .regs; clock = c .clock; vadr = c .vadr; space = c .space; system = y; stop = c .stop; written = c .written }
+
+abbrev pub withStop : Stop → Cpu → Cpu
+withStop x c = record { regs = c .regs; clock = c .clock; vadr = c .vadr; space = c .space; system = c .system; stop = x; written = c .written }
+
+abbrev pub withWritten : ℕ → Cpu → Cpu
+withWritten x c = record { regs = c .regs; clock = c .clock; vadr = c .vadr; space = c .space; system = c .system; stop = c .stop; written = x }
+
+-- ---- within the groups
+
+abbrev pub withTimer : ℕ → Clock → Clock
+withTimer x k = record { timer = x; timeout = k .timeout; kbchar = k .kbchar; taken = k .taken }
+
+abbrev pub withTimeout : ℕ → Clock → Clock
+withTimeout x k = record { timer = k .timer; timeout = x; kbchar = k .kbchar; taken = k .taken }
+
+abbrev pub withKbchar : ℕ → Clock → Clock
+withKbchar x k = record { timer = k .timer; timeout = k .timeout; kbchar = x; taken = k .taken }
+
+abbrev pub withTaken : ℕ → Clock → Clock
+withTaken x k = record { timer = k .timer; timeout = k .timeout; kbchar = k .kbchar; taken = x }
+
+abbrev pub withUsp : ℕ → System → System
+withUsp x y = record { usp = x; ksp = y .ksp; ivec = y .ivec; user = y .user; iena = y .iena; waiting = y .waiting }
+
+abbrev pub withKsp : ℕ → System → System
+withKsp x y = record { usp = y .usp; ksp = x; ivec = y .ivec; user = y .user; iena = y .iena; waiting = y .waiting }
+
+abbrev pub withIvec : ℕ → System → System
+withIvec x y = record { usp = y .usp; ksp = y .ksp; ivec = x; user = y .user; iena = y .iena; waiting = y .waiting }
+
+abbrev pub withUser : Bool → System → System
+withUser x y = record { usp = y .usp; ksp = y .ksp; ivec = y .ivec; user = x; iena = y .iena; waiting = y .waiting }
+
+abbrev pub withIena : Bool → System → System
+withIena x y = record { usp = y .usp; ksp = y .ksp; ivec = y .ivec; user = y .user; iena = x; waiting = y .waiting }
+
+abbrev pub withWaiting : Bool → System → System
+withWaiting x y = record { usp = y .usp; ksp = y .ksp; ivec = y .ivec; user = y .user; iena = y .iena; waiting = x }
+
+-- register a of a record, set
+abbrev pub putA : ℕ → Cpu → Cpu
+putA x c = withRegs (withA x (c .regs)) c

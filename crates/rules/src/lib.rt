@@ -1,0 +1,93 @@
+// Document 01, "The record and the loaded program": the record, in groups by who writes them.
+use paging::Entry;
+use paging::Space;
+
+// What ordinary instructions change, and the step count.
+pub struct Regs {
+    pub a: u32,
+    pub b: u32,
+    pub c: u32,
+    pub sp: u32,
+    pub pc: u32,
+    pub count: u64,
+}
+
+// What the clock changes: the timer, the last key's character, and the keys taken (document 01's term: how many of the list).
+pub struct Clock {
+    pub timer: u32,
+    pub timeout: u32,
+    pub kbchar: u32,
+    pub taken: usize,
+}
+
+// What traps and privileged instructions change.
+pub struct System {
+    pub usp: u32,
+    pub ksp: u32,
+    pub ivec: u32,
+    pub user: bool,
+    pub iena: bool,
+    pub waiting: bool,
+}
+
+// Why the machine stopped.
+pub enum Stop {
+    Running,
+    Halted,
+    // A trap while iena = 0.
+    Masked,
+    // A trap frame that cannot be stored.
+    NoFrame,
+}
+
+// The record without the page buffer. `vadr` is the faulting address, `written` the count of console bytes.
+pub struct Cpu {
+    pub regs: Regs,
+    pub clock: Clock,
+    pub vadr: u32,
+    pub space: Space,
+    pub system: System,
+    pub stop: Stop,
+    pub written: usize,
+}
+
+// The record: the page buffer's counted entries stand first among its slots; later slots mean nothing.
+pub struct Machine {
+    pub cpu: Cpu,
+    pub entries: [Entry; 64],
+    pub held: usize,
+}
+
+// A key: the step number at which it comes, and its byte.
+pub struct Key {
+    pub step: u64,
+    pub byte: u8,
+}
+
+// The next key of a list, if there is one.
+pub struct Next {
+    pub some: bool,
+    pub step: u64,
+    pub byte: u8,
+}
+
+// What a run answers.
+pub enum RunAnswer {
+    Accepted,
+    BadSize,
+    BadRegisters,
+    BadBuffer,
+    BadKeys,
+    BadConsole,
+    BadBudget,
+}
+
+// The number of a stop reason.
+pub fn stop_number(stop: Stop) -> u32 {
+    match stop {
+        Stop::Running => 0,
+        Stop::Halted => 1,
+        Stop::Masked => 2,
+        Stop::NoFrame => 3,
+    }
+}
