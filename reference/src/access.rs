@@ -1,0 +1,51 @@
+//! Operand accesses: translate, drop low bits, read or store. A fault sets
+//! vadr to the address asked and ends the instruction.
+
+use crate::coverage::Storer;
+use crate::machine::Machine;
+use crate::mistake::Mistake;
+use crate::types::{Access, Trap};
+use crate::words;
+
+impl Machine {
+    /// Translates in the current mode. `size` is 1, 2 or 4; the physical
+    /// address comes back with its low bits dropped to that size.
+    pub fn reach(&mut self, address: u32, access: Access, size: u32) -> Result<u32, Trap> {
+        match self.translate(address, access, self.regs.user) {
+            Ok(physical) => Ok(physical & !(size - 1)),
+            Err(trap) => {
+                let dropped = address & !(size - 1);
+                self.regs.vadr = self.pick(Mistake::VadrLowBitsDropped, dropped, address);
+                Err(trap)
+            }
+        }
+    }
+
+    pub fn read(&mut self, address: u32, size: u32) -> Result<u32, Trap> {
+        let physical = self.reach(address, Access::Read, size)?;
+        Ok(words::get(&self.memory, physical, size))
+    }
+
+    pub fn write(&mut self, address: u32, size: u32, value: u32) -> Result<(), Trap> {
+        let physical = self.reach(address, Access::Write, size)?;
+        self.store(physical, size, value, Storer::Instruction);
+        Ok(())
+    }
+
+    /// A store at a translated address, noted if it is of demand 3's kind: if
+    /// it writes a byte of a word of an entry held now, after its translation.
+    pub fn store(&mut self, physical: u32, size: u32, value: u32, storer: Storer) {
+        if self.is_held_word(physical, size) {
+            self.coverage.held_stores[storer as usize] += 1;
+            self.held_store.get_or_insert(self.regs.count);
+        }
+        words::put(&mut self.memory, physical, size, value);
+    }
+
+    fn is_held_word(&self, physical: u32, size: u32) -> bool {
+        let overlaps = |word: u32| physical < word + 4 && word < physical + size;
+        let Some(buffer) = &self.buffer else { return false };
+        let origins = buffer.entries().iter().filter_map(|entry| entry.origin);
+        origins.into_iter().any(|origin| overlaps(origin.directory) || overlaps(origin.table))
+    }
+}

@@ -1,0 +1,133 @@
+//! Writing a case in the format of FORMAT.md.
+
+use super::{Case, Load, RunInput, Runs, KIND_LOAD, KIND_RUNS};
+use super::{MAX_CASE, MAX_CONSOLE, MAX_KEYS, MAX_MEMORY, MAX_RUNS};
+use crate::types::{Buffer, Entry, Registers};
+
+/// Zero bytes that part two chunks; fewer are cheaper to write out.
+const GAP: usize = 8;
+
+/// The bytes of a case. Panics on one beyond the format's bounds.
+pub fn encode(case: &Case) -> Vec<u8> {
+    let mut bytes = vec![0; 4];
+    match case {
+        Case::Runs(runs) => put_runs(&mut bytes, runs),
+        Case::Load(load) => put_load(&mut bytes, load),
+    }
+    assert!(bytes.len() <= MAX_CASE, "a case of {} bytes", bytes.len());
+    let length = bytes.len() as u32;
+    bytes[..4].copy_from_slice(&length.to_le_bytes());
+    bytes
+}
+
+fn put32(bytes: &mut Vec<u8>, value: u32) {
+    bytes.extend_from_slice(&value.to_le_bytes());
+}
+
+fn put64(bytes: &mut Vec<u8>, value: u64) {
+    bytes.extend_from_slice(&value.to_le_bytes());
+}
+
+fn put_length(bytes: &mut Vec<u8>, length: usize, bound: usize) {
+    assert!(length <= bound, "{length} is beyond the format's {bound}");
+    put32(bytes, length as u32);
+}
+
+fn put_load(bytes: &mut Vec<u8>, load: &Load) {
+    put32(bytes, KIND_LOAD);
+    put_length(bytes, load.memory_length, MAX_MEMORY);
+    put32(bytes, u32::from(load.fill));
+    put_length(bytes, load.file.len(), MAX_CASE);
+    bytes.extend_from_slice(&load.file);
+}
+
+fn put_runs(bytes: &mut Vec<u8>, case: &Runs) {
+    let chunks = chunks(&case.memory);
+    let console = &case.console[..used(&case.console)];
+    let slots = slots_to_give(&case.record.buffer);
+    put32(bytes, KIND_RUNS);
+    put_length(bytes, case.memory.len(), MAX_MEMORY);
+    put_length(bytes, case.console.len(), MAX_CONSOLE);
+    put_registers(bytes, &case.record.regs);
+    put32(bytes, case.record.buffer.count);
+    put32(bytes, slots.len() as u32);
+    put32(bytes, chunks.len() as u32);
+    put32(bytes, console.len() as u32);
+    put_length(bytes, case.runs.len(), MAX_RUNS);
+    for entry in slots {
+        for field in [entry.page, entry.frame, u32::from(entry.user), u32::from(entry.write)] {
+            put32(bytes, field);
+        }
+    }
+    for (start, end) in chunks {
+        put32(bytes, start as u32);
+        put32(bytes, (end - start) as u32);
+        bytes.extend_from_slice(&case.memory[start..end]);
+    }
+    bytes.extend_from_slice(console);
+    for run in &case.runs {
+        put_run(bytes, run);
+    }
+}
+
+fn put_registers(bytes: &mut Vec<u8>, regs: &Registers) {
+    let numbers = [
+        regs.a,
+        regs.b,
+        regs.c,
+        regs.sp,
+        regs.usp,
+        regs.ksp,
+        regs.pc,
+        regs.ivec,
+        regs.pdir,
+        regs.vadr,
+        regs.timer,
+        regs.timeout,
+        regs.kbchar,
+    ];
+    for number in numbers {
+        put32(bytes, number);
+    }
+    bytes.extend([regs.user, regs.iena, regs.paging, regs.waiting].map(u8::from));
+    put32(bytes, regs.stop as u32);
+    put64(bytes, regs.count);
+    put64(bytes, regs.keys);
+    put64(bytes, regs.written);
+}
+
+fn put_run(bytes: &mut Vec<u8>, run: &RunInput) {
+    put_length(bytes, run.keys.len(), MAX_KEYS);
+    for key in &run.keys {
+        put64(bytes, key.step);
+        bytes.push(key.byte);
+    }
+    put64(bytes, run.budget);
+}
+
+/// The slots up to the last that isn't all zero; the reader zeros the rest.
+fn slots_to_give(buffer: &Buffer) -> &[Entry] {
+    let blank = |entry: &Entry| Entry { origin: None, ..*entry } == Entry::default();
+    let given = buffer.slots.iter().rposition(|entry| !blank(entry));
+    &buffer.slots[..given.map_or(0, |last| last + 1)]
+}
+
+/// The length without trailing zeros.
+fn used(bytes: &[u8]) -> usize {
+    bytes.iter().rposition(|byte| *byte != 0).map_or(0, |last| last + 1)
+}
+
+/// The stretches of memory to write out, as (start, end), in rising order.
+fn chunks(memory: &[u8]) -> Vec<(usize, usize)> {
+    let mut chunks: Vec<(usize, usize)> = Vec::new();
+    for (at, byte) in memory.iter().enumerate() {
+        if *byte == 0 {
+            continue;
+        }
+        match chunks.last_mut() {
+            Some((_, end)) if at - *end < GAP => *end = at + 1,
+            _ => chunks.push((at, at + 1)),
+        }
+    }
+    chunks
+}

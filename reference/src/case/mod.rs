@@ -1,0 +1,96 @@
+//! Test cases: what a machine is given. The byte format is FORMAT.md's.
+
+pub mod decode;
+pub mod encode;
+
+use crate::types::{Entry, Key, Record, Registers};
+use crate::words;
+
+/// Bounds a reader with fixed buffers may rely on.
+pub const MAX_MEMORY: usize = 65_536;
+pub const MAX_CONSOLE: usize = 4_096;
+pub const MAX_KEYS: usize = 64;
+pub const MAX_RUNS: usize = 64;
+pub const MAX_CASE: usize = 131_072;
+
+/// Numbers of the two kinds of case.
+pub const KIND_RUNS: u32 = 1;
+pub const KIND_LOAD: u32 = 2;
+
+#[derive(Clone, Debug, Default, PartialEq, Eq)]
+pub struct RunInput {
+    pub keys: Vec<Key>,
+    pub budget: u64,
+}
+
+/// A starting memory, console and record, and a list of runs handed on.
+#[derive(Clone, Debug, Default, PartialEq, Eq)]
+pub struct Runs {
+    pub memory: Vec<u8>,
+    pub console: Vec<u8>,
+    pub record: Record,
+    pub runs: Vec<RunInput>,
+}
+
+/// A file to load into a memory of `memory_length` bytes of `fill`.
+#[derive(Clone, Debug, PartialEq, Eq)]
+pub struct Load {
+    pub memory_length: usize,
+    pub fill: u8,
+    pub file: Vec<u8>,
+}
+
+#[derive(Clone, Debug, PartialEq, Eq)]
+pub enum Case {
+    Runs(Box<Runs>),
+    Load(Load),
+}
+
+/// Building cases by hand.
+impl Runs {
+    pub fn new(memory_length: usize, regs: Registers) -> Runs {
+        let record = Record { regs, ..Record::default() };
+        Runs { memory: vec![0; memory_length], record, ..Runs::default() }
+    }
+
+    /// Puts words into memory from `at` on.
+    pub fn words(mut self, at: u32, list: &[u32]) -> Runs {
+        for (nth, word) in list.iter().enumerate() {
+            words::put(&mut self.memory, at + 4 * nth as u32, 4, *word);
+        }
+        self
+    }
+
+    pub fn bytes(mut self, at: usize, list: &[u8]) -> Runs {
+        self.memory[at..at + list.len()].copy_from_slice(list);
+        self
+    }
+
+    pub fn console(mut self, console: &[u8]) -> Runs {
+        self.console = console.to_vec();
+        self
+    }
+
+    pub fn entry(mut self, page: u32, frame: u32, user: bool, write: bool) -> Runs {
+        let buffer = &mut self.record.buffer;
+        buffer.slots[buffer.count as usize] = Entry { page, frame, user, write, origin: None };
+        buffer.count += 1;
+        self
+    }
+
+    pub fn run(self, budget: u64) -> Runs {
+        self.run_keys(budget, &[])
+    }
+
+    pub fn run_keys(mut self, budget: u64, keys: &[(u64, u8)]) -> Runs {
+        let keys = keys.iter().map(|(step, byte)| Key { step: *step, byte: *byte }).collect();
+        self.runs.push(RunInput { keys, budget });
+        self
+    }
+}
+
+impl From<Runs> for Case {
+    fn from(runs: Runs) -> Case {
+        Case::Runs(Box::new(runs))
+    }
+}

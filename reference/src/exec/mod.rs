@@ -1,0 +1,116 @@
+//! Executing a fetched word: illegal opcode first, then privilege, then the
+//! operation. pc has already moved. Document 01, "Opcodes".
+
+mod arith;
+mod block;
+mod flow;
+mod memory;
+mod system;
+
+use crate::machine::Machine;
+use crate::mistake::Mistake;
+use crate::opcodes::decode::{decode, Op, Reg, System};
+use crate::types::Trap;
+use crate::words::{field, immediate};
+
+impl Machine {
+    pub fn execute(&mut self, word: u32) -> Result<(), Trap> {
+        let Some(op) = self.decoded(word as u8) else { return Err(Trap::Finst) };
+        if self.regs.user && self.is_privileged(op) {
+            return Err(Trap::Fpriv);
+        }
+        let imm = immediate(word);
+        match op {
+            Op::Nop => Ok(()),
+            Op::Trap => Err(Trap::Fsys),
+            Op::Load(reg, base, width) => self.load_register(reg, base, width, imm),
+            Op::Store(base, width) => self.store_a(base, width, imm),
+            Op::Push(reg) => self.push(self.register(reg)),
+            Op::Pshi => self.push(self.pick(Mistake::PshiUnsigned, field(word), imm)),
+            Op::Pop(reg) => self.pop(reg),
+            Op::Arith(arith, source) => self.arithmetic(arith, source, word),
+            Op::Block(block) => self.block(block),
+            Op::System(system) => self.system(system, imm),
+            Op::Lev => self.lev(imm),
+            Op::Jsr => self.call(self.regs.pc.wrapping_add(imm)),
+            Op::Jsra => {
+                let relative = self.regs.pc.wrapping_add(self.regs.a);
+                self.call(self.pick(Mistake::JsraAbsolute, self.regs.a, relative))
+            }
+            _ => {
+                self.execute_plain(op, word);
+                Ok(())
+            }
+        }
+    }
+
+    /// The operations that neither reach memory nor fault.
+    fn execute_plain(&mut self, op: Op, word: u32) {
+        let imm = immediate(word);
+        match op {
+            Op::LoadImm(reg) => self.set_register(reg, imm),
+            Op::LoadHigh(reg) => {
+                let low = self.pick(Mistake::LhiShiftedAgain, field(word) >> 8, field(word));
+                self.set_register(reg, (self.register(reg) << 24) + low);
+            }
+            Op::Lba => self.regs.b = self.regs.a,
+            Op::Lca => self.regs.c = self.regs.a,
+            Op::Lea => self.regs.a = self.regs.sp.wrapping_add(imm),
+            Op::Leag => self.regs.a = self.regs.pc.wrapping_add(imm),
+            Op::Cyc => {
+                let count = self.pick(Mistake::CycOldCount, self.regs.count - 1, self.regs.count);
+                self.regs.a = count as u32;
+            }
+            Op::Compare(cond) => self.regs.a = u32::from(self.holds(cond)),
+            Op::Branch(cond) => self.branch(cond, imm),
+            Op::Ent => self.set_sp(self.regs.sp.wrapping_add(imm)),
+            Op::Jmp => self.set_pc(self.regs.pc.wrapping_add(imm)),
+            Op::Jmpi => self.jmpi(imm),
+            _ => unreachable!("{op:?} has its own family"),
+        }
+    }
+
+    fn decoded(&self, code: u8) -> Option<Op> {
+        match code {
+            0x99 if self.makes(Mistake::BinIllegal) => None,
+            0xb3..=0xbb if self.makes(Mistake::NetworkNops) => Some(Op::Nop),
+            _ => decode(code),
+        }
+    }
+
+    /// The system operations are the sixteen privileged ones.
+    fn is_privileged(&self, op: Op) -> bool {
+        let Op::System(system) = op else { return false };
+        match system {
+            System::Ssp => !self.makes(Mistake::SspOpen),
+            System::Msiz | System::Lvad | System::Lusp => !self.makes(Mistake::ReadersOpen),
+            _ => true,
+        }
+    }
+
+    pub fn register(&self, reg: Reg) -> u32 {
+        match reg {
+            Reg::A => self.regs.a,
+            Reg::B => self.regs.b,
+            Reg::C => self.regs.c,
+        }
+    }
+
+    pub fn set_register(&mut self, reg: Reg, value: u32) {
+        match reg {
+            Reg::A => self.regs.a = value,
+            Reg::B => self.regs.b = value,
+            Reg::C => self.regs.c = value,
+        }
+    }
+
+    /// "sp, usp and ksp, set by any instruction, drop their low three bits".
+    pub fn set_sp(&mut self, value: u32) {
+        self.regs.sp = value & !7;
+    }
+
+    /// "pc and ivec their low two".
+    pub fn set_pc(&mut self, value: u32) {
+        self.regs.pc = value & !3;
+    }
+}

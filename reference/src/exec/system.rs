@@ -1,0 +1,116 @@
+//! The sixteen privileged opcodes.
+
+use crate::coverage::Emptied;
+use crate::machine::Machine;
+use crate::mistake::Mistake;
+use crate::opcodes::decode::System;
+use crate::trap::USER_MARK;
+use crate::types::{Stop, Trap, NO_KEY, PAGE};
+
+impl Machine {
+    pub fn system(&mut self, system: System, imm: u32) -> Result<(), Trap> {
+        match system {
+            System::Rti => return self.rti(),
+            System::Pdir => return self.set_pdir(),
+            System::Spag => self.set_paging(),
+            System::Halt => self.halt(),
+            System::Cli => {
+                self.regs.a = u32::from(self.regs.iena);
+                self.regs.iena = false;
+            }
+            System::Sti => self.regs.iena = true,
+            System::Idle => {
+                self.regs.waiting = self.pick(Mistake::IdleAlwaysWaits, true, self.regs.iena);
+            }
+            System::Bin => {
+                self.regs.a = self.regs.kbchar;
+                self.regs.kbchar = self.pick(Mistake::BinKeepsKey, self.regs.kbchar, NO_KEY);
+            }
+            System::Bout => self.bout(),
+            System::Ssp => self.regs.ksp = self.regs.a & !7,
+            System::Susp => self.regs.usp = self.regs.a & !7,
+            System::Lusp => self.regs.a = self.regs.usp,
+            System::Ivec => self.regs.ivec = self.regs.a & !3,
+            System::Time => self.time(imm),
+            System::Lvad => {
+                self.regs.a = self.regs.vadr;
+                self.regs.vadr = self.pick(Mistake::LvadResets, 0, self.regs.vadr);
+            }
+            System::Msiz => self.regs.a = self.memory_size(),
+        }
+        Ok(())
+    }
+
+    fn halt(&mut self) {
+        self.regs.stop = Stop::Halted;
+        self.regs.pc = self.pick(Mistake::HaltPcStays, self.regs.pc.wrapping_sub(4), self.regs.pc);
+    }
+
+    /// b's low byte appended, a = 1; console full, a = 0xFFFFFFFF.
+    fn bout(&mut self) {
+        let byte = self.regs.b as u8;
+        if let Some(place) = self.console.get_mut(self.regs.written as usize) {
+            *place = byte;
+            self.regs.written += 1;
+            self.regs.a = 1;
+        } else {
+            self.regs.a = self.pick(Mistake::FullConsoleOne, 1, u32::MAX);
+        }
+    }
+
+    /// TIME with imm not 0 does nothing; the timer itself is left.
+    fn time(&mut self, imm: u32) {
+        if imm == 0 || self.makes(Mistake::TimeIgnoresImm) {
+            self.regs.timeout = self.regs.a;
+            self.regs.timer = self.pick(Mistake::TimeRestartsTimer, 0, self.regs.timer);
+        }
+    }
+
+    /// a not below M is FMEM with vadr = a; low twelve bits drop.
+    fn set_pdir(&mut self) -> Result<(), Trap> {
+        if self.regs.a >= self.memory_size() {
+            self.regs.vadr = self.regs.a;
+            if self.makes(Mistake::PdirFaultEmpties) {
+                self.empty(Emptied::Pdir);
+            }
+            return Err(Trap::Fmem);
+        }
+        let old = self.regs.pdir;
+        self.regs.pdir = self.regs.a & !(PAGE - 1);
+        self.empty_after(Emptied::Pdir, old == self.regs.pdir);
+        Ok(())
+    }
+
+    fn set_paging(&mut self) {
+        let old = self.regs.paging;
+        self.regs.paging = self.pick(Mistake::SpagLowBit, self.regs.a & 1, self.regs.a) != 0;
+        self.empty_after(Emptied::Spag, old == self.regs.paging);
+    }
+
+    /// PDIR and SPAG empty the buffer, also with the value already set.
+    fn empty_after(&mut self, why: Emptied, same: bool) {
+        let keeps = same && self.makes(Mistake::SameValueKeepsBuffer);
+        if !keeps && !self.makes(Mistake::NeverEmptied) {
+            self.empty(why);
+        }
+    }
+
+    /// Code at sp, pc at sp+8; the mark of value 16 leads to user mode.
+    fn rti(&mut self) -> Result<(), Trap> {
+        let sp = self.regs.sp;
+        if self.makes(Mistake::RtiPcFirst) {
+            self.read(sp.wrapping_add(8), 4)?;
+        }
+        let code = self.read(sp, 4)?;
+        let target = self.read(sp.wrapping_add(8), 4)?;
+        self.set_pc(target);
+        self.regs.sp = sp.wrapping_add(16);
+        self.regs.iena = true;
+        if self.pick(Mistake::RtiExactMark, code == USER_MARK, code & USER_MARK != 0) {
+            self.regs.ksp = self.pick(Mistake::RtiOldSpToKsp, sp, self.regs.sp);
+            self.regs.sp = self.regs.usp;
+            self.regs.user = true;
+        }
+        Ok(())
+    }
+}

@@ -1,0 +1,23 @@
+//! An independent second program for the rules of the v9 machine: clarity
+//! over speed, no crates, nothing shared with the product.
+
+pub mod access;
+pub mod buffer;
+pub mod case;
+pub mod clock;
+pub mod coverage;
+pub mod digest;
+pub mod exec;
+pub mod expect;
+pub mod line;
+pub mod load;
+pub mod machine;
+pub mod mistake;
+pub mod opcodes;
+pub mod run;
+pub mod step;
+pub mod translate;
+pub mod trap;
+pub mod types;
+pub mod words;
+pub mod worked;

@@ -1,0 +1,63 @@
+//! The machine: registers, page buffer, lent memory and console.
+
+use crate::coverage::Coverage;
+use crate::mistake::Mistake;
+use crate::types::{Buffer, Record, Registers};
+
+#[derive(Clone)]
+pub struct Machine {
+    pub regs: Registers,
+    /// `None` is the table reader of demand 3, which keeps no entry.
+    pub buffer: Option<Buffer>,
+    pub memory: Vec<u8>,
+    pub console: Vec<u8>,
+    /// A planted mistake; `None` is the machine of document 01.
+    pub mistake: Option<Mistake>,
+    /// The step count at the first store of demand 3's kind.
+    pub held_store: Option<u64>,
+    pub coverage: Coverage,
+}
+
+impl Machine {
+    /// The machine with the page buffer.
+    pub fn buffered(memory: Vec<u8>, console: Vec<u8>, record: &Record) -> Machine {
+        let reader = Machine::table_reader(memory, console, record);
+        Machine { buffer: Some(record.buffer.clone()), ..reader }
+    }
+
+    /// The second machine of demand 3; the record's entries are no part of it.
+    pub fn table_reader(memory: Vec<u8>, console: Vec<u8>, record: &Record) -> Machine {
+        Machine {
+            regs: record.regs.clone(),
+            buffer: None,
+            memory,
+            console,
+            mistake: None,
+            held_store: None,
+            coverage: Coverage::default(),
+        }
+    }
+
+    /// The record as a run returns it; the table reader's has no entries.
+    pub fn record(&self) -> Record {
+        Record { regs: self.regs.clone(), buffer: self.buffer.clone().unwrap_or_default() }
+    }
+
+    /// M. Only asked once M is known to be accepted, so it fits 32 bits.
+    pub fn memory_size(&self) -> u32 {
+        self.memory.len() as u32
+    }
+
+    pub fn makes(&self, mistake: Mistake) -> bool {
+        self.mistake == Some(mistake)
+    }
+
+    /// The rule's value, unless the mistake is planted.
+    pub fn pick<T>(&self, mistake: Mistake, planted: T, rule: T) -> T {
+        if self.makes(mistake) {
+            planted
+        } else {
+            rule
+        }
+    }
+}

@@ -1,0 +1,6 @@
+//! The low eight bits of an instruction word: the source's table, the sets
+//! derived from it, and the decoder the machine uses.
+
+pub mod decode;
+pub mod sets;
+pub mod table;

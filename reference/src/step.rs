@@ -1,0 +1,83 @@
+//! One step. Document 01, "One step".
+
+use crate::machine::Machine;
+use crate::mistake::Mistake;
+use crate::opcodes::decode::{decode, Op};
+use crate::types::{Access, Key, Registers, Stop, Trap};
+use crate::words;
+
+impl Machine {
+    pub fn step(&mut self, keys: &[Key]) {
+        let start = self.regs.clone();
+        self.regs.count += 1;
+        if let Some(trap) = self.clock(keys) {
+            self.regs.waiting = false;
+            self.deliver(trap, self.regs.pc);
+        } else if !self.regs.waiting {
+            self.instruction();
+        }
+        self.misread_stop(&start);
+    }
+
+    /// Fetch at pc; pc moves 4 on; execute. A faulting instruction leaves the
+    /// registers as before the fetch, save vadr.
+    fn instruction(&mut self) {
+        let before = self.regs.clone();
+        let next = before.pc.wrapping_add(4);
+        let word = match self.fetch() {
+            Ok(word) => word,
+            Err(trap) => {
+                let return_pc = self.pick(Mistake::FetchFaultNextPc, next, before.pc);
+                return self.fault(trap, return_pc);
+            }
+        };
+        let code = usize::from(word as u8);
+        self.regs.pc = next;
+        let Err(trap) = self.execute(word) else {
+            self.coverage.completed[code] += 1;
+            return;
+        };
+        self.coverage.faulted[code] += 1;
+        let vadr = self.regs.vadr;
+        let sp = self.pick(Mistake::FaultedPushKeepsSp, self.regs.sp, before.sp);
+        let own_pc = self.misread_return(trap, word);
+        self.regs = Registers { vadr, sp, ..before };
+        self.fault(trap, if own_pc { before.pc } else { next });
+        if self.regs.stop == Stop::NoFrame {
+            self.regs.pc = self.pick(Mistake::StopPcMoved, next, self.regs.pc);
+        }
+    }
+
+    fn fetch(&mut self) -> Result<u32, Trap> {
+        let fetched = self.reach(self.regs.pc, Access::Fetch, 4);
+        let memory_trap = self.pick(Mistake::FetchMemoryAsPage, Trap::Fipage, Trap::Fmem);
+        let at = fetched.map_err(|trap| if trap == Trap::Fmem { memory_trap } else { trap })?;
+        Ok(words::get(&self.memory, at, 4))
+    }
+
+    /// Planted mistakes only: whether this fault would store its own address.
+    fn misread_return(&self, trap: Trap, word: u32) -> bool {
+        let block = matches!(decode(word as u8), Some(Op::Block(_)));
+        let unexecuted = matches!(trap, Trap::Finst | Trap::Fpriv);
+        (block && self.makes(Mistake::BlockFaultOwnPc))
+            || (unexecuted && self.makes(Mistake::IllegalOwnPc))
+    }
+
+    /// Planted mistakes only: other readings of what a stop leaves.
+    fn misread_stop(&mut self, start: &Registers) {
+        if !matches!(self.regs.stop, Stop::Masked | Stop::NoFrame) {
+            return;
+        }
+        if self.makes(Mistake::ClockUndoneOnStop) {
+            self.regs.kbchar = start.kbchar;
+            self.regs.keys = start.keys;
+            self.regs.timer = start.timer;
+        }
+        if self.makes(Mistake::WaitingKeptOnStop) {
+            self.regs.waiting = start.waiting;
+        }
+        if self.makes(Mistake::StopForgetsVadr) && self.regs.stop == Stop::Masked {
+            self.regs.vadr = start.vadr;
+        }
+    }
+}

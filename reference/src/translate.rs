@@ -1,0 +1,123 @@
+//! From an address to a physical address or a fault, and the walk through
+//! directory and table. Document 01, "Addresses".
+
+use crate::machine::Machine;
+use crate::mistake::Mistake;
+use crate::types::{Access, Entry, Origin, Trap, PAGE};
+use crate::words;
+
+/// Bits of directory and table words.
+pub const P: u32 = 1;
+pub const W: u32 = 2;
+pub const U: u32 = 4;
+pub const A: u32 = 0x20;
+pub const D: u32 = 0x40;
+
+/// The frame address in a directory or table word.
+const FRAME: u32 = !(PAGE - 1);
+
+fn page_fault(access: Access) -> Trap {
+    match access {
+        Access::Fetch => Trap::Fipage,
+        Access::Read => Trap::Frpage,
+        Access::Write => Trap::Fwpage,
+    }
+}
+
+impl Machine {
+    /// A physical address, or the fault's trap. The mode is told, since trap
+    /// frames are written for the kernel; vadr is left to the caller, since a
+    /// refused frame slot doesn't set it.
+    pub fn translate(&mut self, address: u32, access: Access, user: bool) -> Result<u32, Trap> {
+        if !self.regs.paging {
+            return self.translate_unpaged(address);
+        }
+        let offset = address % PAGE;
+        if let Some(frame) = self.hit(address / PAGE, access, user) {
+            return Ok(frame * PAGE + offset);
+        }
+        let answer = self.walk(address, access, user);
+        self.coverage.walk(access, user, answer.is_ok());
+        if answer.is_err() {
+            self.misread_fault(address / PAGE);
+        }
+        Ok(answer? + offset)
+    }
+
+    fn translate_unpaged(&mut self, address: u32) -> Result<u32, Trap> {
+        if address >= self.memory_size() {
+            return Err(Trap::Fmem);
+        }
+        if self.makes(Mistake::BuffersUnpaged) {
+            let page = address / PAGE;
+            self.keep(Entry { page, frame: page, user: true, write: true, origin: None });
+        }
+        Ok(address)
+    }
+
+    /// The frame address for a page without a usable entry, and the entry kept.
+    fn walk(&mut self, address: u32, access: Access, user: bool) -> Result<u32, Trap> {
+        let directory_at = self.regs.pdir + 4 * (address >> 22);
+        let directory = words::get(&self.memory, directory_at, 4);
+        if directory & P == 0 {
+            return Err(page_fault(access));
+        }
+        let late = self.makes(Mistake::DirectoryMarkLate);
+        if !late {
+            words::put(&mut self.memory, directory_at, 4, directory | A);
+        }
+        if directory & FRAME >= self.memory_size() {
+            return Err(Trap::Fmem);
+        }
+        // Read after the mark: a self-mapped directory word is its own table word.
+        let table_at = (directory & FRAME) + 4 * ((address >> 12) & 0x3ff);
+        let table = words::get(&self.memory, table_at, 4);
+        if !self.permits(directory, table, access, user) {
+            if table & P != 0 && self.makes(Mistake::TableMarkOnFault) {
+                words::put(&mut self.memory, table_at, 4, table | A);
+            }
+            return Err(page_fault(access));
+        }
+        if late {
+            words::put(&mut self.memory, directory_at, 4, directory | A);
+        }
+        let mut marked = table | A;
+        if access == Access::Write {
+            marked |= D;
+        }
+        let beyond = table & FRAME >= self.memory_size();
+        if !(beyond && self.makes(Mistake::NoMarkBeforeFrameFault)) {
+            words::put(&mut self.memory, table_at, 4, marked);
+        }
+        if beyond {
+            return Err(Trap::Fmem);
+        }
+        self.keep(Entry {
+            page: address / PAGE,
+            frame: marked / PAGE,
+            user: self.user_right(directory, marked),
+            write: self.write_right(directory, marked, access),
+            origin: Some(Origin { directory: directory_at, table: table_at }),
+        });
+        Ok(marked & FRAME)
+    }
+
+    /// Present; in user mode U in both words; for a write W in both words.
+    fn permits(&self, directory: u32, table: u32, access: Access, user: bool) -> bool {
+        let both = directory & table;
+        let asks_w = access == Access::Write && (user || !self.makes(Mistake::KernelIgnoresW));
+        table & P != 0 && (!user || self.user_right(directory, table)) && (!asks_w || both & W != 0)
+    }
+
+    fn user_right(&self, directory: u32, table: u32) -> bool {
+        self.pick(Mistake::UserByTableOnly, table, directory & table) & U != 0
+    }
+
+    /// "write right, which needs W in both words and D in the table word",
+    /// as that word stands after the walk's own marks.
+    fn write_right(&self, directory: u32, marked: u32, access: Access) -> bool {
+        let dirty = marked & D != 0 || self.makes(Mistake::ReadFillWritable);
+        let by_write = access == Access::Write || !self.makes(Mistake::WriteRightByWriteOnly);
+        directory & marked & W != 0 && dirty && by_write
+    }
+}

@@ -1,0 +1,67 @@
+//! Traps: a fault with iena = 0 stops; delivery stores the frame and enters
+//! the kernel. Document 01, "Traps".
+
+use crate::coverage::Storer;
+use crate::machine::Machine;
+use crate::mistake::Mistake;
+use crate::types::{Access, Stop, Trap};
+
+/// Added to the code of a trap from user mode.
+pub const USER_MARK: u32 = 16;
+
+impl Machine {
+    /// A fault or TRAP. The registers are those of before the fetch, so a stop
+    /// leaves them so.
+    pub fn fault(&mut self, trap: Trap, return_pc: u32) {
+        if self.regs.iena {
+            self.deliver(trap, return_pc);
+        } else {
+            self.regs.stop = Stop::Masked;
+        }
+    }
+
+    /// Both slots are translated for kernel writing before either is stored.
+    pub fn deliver(&mut self, trap: Trap, return_pc: u32) {
+        let user = self.regs.user;
+        let top = if user { self.regs.ksp } else { self.regs.sp };
+        let (pc_slot, code_slot) = (top.wrapping_sub(8), top.wrapping_sub(16));
+        let Some(pc_at) = self.frame_slot(pc_slot) else { return };
+        if self.makes(Mistake::FrameSlotBySlot) {
+            self.store_slot(pc_at, return_pc);
+        }
+        let Some(code_at) = self.frame_slot(code_slot) else { return };
+        self.store_slot(pc_at, return_pc);
+        self.store_slot(code_at, self.code(trap));
+        self.coverage.trap(trap, user);
+        if user {
+            self.regs.usp = self.regs.sp;
+            self.regs.user = false;
+        }
+        self.regs.sp = code_slot;
+        self.regs.iena = false;
+        self.regs.pc = self.regs.ivec;
+    }
+
+    /// A slot's physical address; a refusal stops and doesn't set vadr.
+    fn frame_slot(&mut self, slot: u32) -> Option<u32> {
+        let answer = self.translate(slot, Access::Write, false);
+        if answer.is_err() {
+            self.regs.stop = Stop::NoFrame;
+            self.regs.vadr = self.pick(Mistake::SlotSetsVadr, slot, self.regs.vadr);
+        }
+        answer.ok()
+    }
+
+    /// Four bytes a slot; the other four keep.
+    fn store_slot(&mut self, physical: u32, value: u32) {
+        self.store(physical, 4, value, Storer::Frame);
+        if self.makes(Mistake::SlotsEightBytes) {
+            self.store(physical + 4, 4, 0, Storer::Frame);
+        }
+    }
+
+    fn code(&self, trap: Trap) -> u32 {
+        let unmarked = trap.is_interrupt() && self.makes(Mistake::InterruptsUnmarked);
+        trap as u32 + if self.regs.user && !unmarked { USER_MARK } else { 0 }
+    }
+}
