@@ -10,3 +10,5 @@ pub mod Trap
 pub mod System
 pub mod Clock
 pub mod Step
+pub mod Run
+pub mod Load
