@@ -138,16 +138,12 @@ impl Coverage {
         visit("runs", &mut self.runs, true);
         visit("steps", &mut self.steps, true);
         self.each_opcode(&mut visit);
-        for access in 0..3 {
-            for mode in 0..2 {
-                let kind = format!("{} {}", MODES[mode], ACCESSES[access]);
-                visit(&format!("hit, {kind}"), &mut self.hits[access][mode], true);
-                visit(&format!("walk kept, {kind}"), &mut self.walks_kept[access][mode], true);
-                visit(
-                    &format!("walk faulted, {kind}"),
-                    &mut self.walks_faulted[access][mode],
-                    true,
-                );
+        for (at, access) in ACCESSES.iter().enumerate() {
+            for (by, mode) in MODES.iter().enumerate() {
+                let kind = format!("{mode} {access}");
+                visit(&format!("hit, {kind}"), &mut self.hits[at][by], true);
+                visit(&format!("walk kept, {kind}"), &mut self.walks_kept[at][by], true);
+                visit(&format!("walk faulted, {kind}"), &mut self.walks_faulted[at][by], true);
             }
         }
         visit("entry added", &mut self.added, true);
