@@ -1,0 +1,5 @@
+pub mod Conversion
+pub mod Division
+pub mod Shift
+pub mod Extension
+pub mod Bounds

@@ -1,0 +1,17 @@
+-- `word::extend16` meets its contract. Assumes nothing.
+use borrow.Author.Needs.{needs}
+use Rattle.word.proofs.Extension.{extend-clear, extend-set}
+use Rattle.word.proofs.extend16.Statement.{statement}
+use Rattle.word.proofs.extend16.Tie as tie
+
+add-result : tie.Need-add-result
+add-result c = search needs
+
+returns : tie.Need-returns
+returns c = extend-clear 16 (c .if1 .taken)
+
+returns-2 : tie.Need-returns-2
+returns-2 c = extend-set 16 (c .if1 .left)
+
+pub extend16-spec : {M : Type 1} → statement M
+extend16-spec = tie.close (tie.spec add-result returns returns-2)
