@@ -3,7 +3,7 @@ use Prim.Native.Nat.{ℕ, _+_}
 use mathlib.Core.Bool.{Bool, true, false}
 use mathlib.Core.List.{List, [], _∷_, _++_}
 use mathlib.Core.Option.{Option, none, some}
-use lib.ListN.{length}
+use lib.ListN.{length, set}
 use Rattle.word.specs.Word.{if_then_else_}
 use Rattle.paging.specs.declared.Space.{Space}
 use Rattle.paging.specs.Event.{Event, delivered}
@@ -15,34 +15,33 @@ use Rattle.rules.specs.Record.{withCount, withRegs, withSpace, withSyste
 use Rattle.rules.specs.Tree.{Tree, done, bind, Ended, storeAll, storeEvents, interpret}
 use Rattle.rules.specs.Outcome.{Out, fine, unfetched, trap, refused, system}
 use Rattle.rules.specs.Execute.{instructionTree}
-use Rattle.rules.specs.Trap.{Effect, none as nothing, turn, deliver, Final, final, deliverTree, trapTree, faultTree, nextPc}
+use Rattle.rules.specs.Trap.{Effect, none as nothing, turn, deliver, print, Final, final, ended, deliverTree, trapTree, faultTree, nextPc}
 use Rattle.rules.specs.System.{systemTree}
 use Rattle.rules.specs.Clock.{nextOf, ticked, dueOf}
 
--- the rest of a step after its instruction: c is the record before the fetch
-unfoldable pub settleTree : ℕ → List ℕ → Cpu → Out → Tree Final
+-- the rest of a step after its instruction: c is the record before the fetch, size and room the lengths of memory and console
+unfoldable pub settleTree : (size room : ℕ) → Cpu → Out → Tree Final
 unfolding faultTree trapTree systemTree
-settleTree size con c (fine r vs) = done (record { cpu = withRegs r c; console = con; values = vs; effect = nothing })
-settleTree size con c (unfetched f) = faultTree c con f (c .regs .pc)
-settleTree size con c (trap code) = trapTree c con code (nextPc c)
-settleTree size con c (refused f) = faultTree c con f (nextPc c)
-settleTree size con c (system op) = systemTree size op c con
+settleTree size room c (fine r vs) = final (withRegs r c) vs nothing
+settleTree size room c (unfetched f) = faultTree c f (c .regs .pc)
+settleTree size room c (trap code) = trapTree c code (nextPc c)
+settleTree size room c (refused f) = faultTree c f (nextPc c)
+settleTree size room c (system op) = systemTree size room op c
 
 -- "waiting ends"
 abbrev pub awake : Cpu → Cpu
 awake c = withSystem (withWaiting false (c .system)) c
 
 -- rules 4 and 5: "If something is due, waiting ends and the trap is delivered; the step ends. If waiting, the step ends. Else fetch"
-unfoldable pub dueTree : Option ℕ → ℕ → List ℕ → Cpu → Tree Final
+unfoldable pub dueTree : Option ℕ → (size room : ℕ) → Cpu → Tree Final
 unfolding settleTree instructionTree
-dueTree (some code) size con c = deliverTree (awake c) con code (c .regs .pc)
-dueTree none size con c =
-    if c .system .waiting then done (final c con) else bind (instructionTree (c .regs)) (settleTree size con c)
+dueTree (some code) size room c = deliverTree (awake c) code (c .regs .pc)
+dueTree none size room c = if c .system .waiting then ended c else bind (instructionTree (c .regs)) (settleTree size room c)
 
 -- a step, from the record before it
-unfoldable pub stepTree : Next → ℕ → List ℕ → Cpu → Tree Final
+unfoldable pub stepTree : Next → (size room : ℕ) → Cpu → Tree Final
 unfolding dueTree
-stepTree k size con c = dueTree (dueOf k c) size con (ticked k c)
+stepTree k size room c = dueTree (dueOf k c) size room (ticked k c)
 
 -- ---- the machines
 
@@ -58,10 +57,19 @@ pub record Stepped (B : Type 0) : Type 0 where
   pub state : State B
   pub events : List Event
 
+-- PDIR and SPAG set the address space
 unfoldable pub spaceAfter : Space → Effect → Space
 spaceAfter s nothing = s
 spaceAfter s (turn t) = t
 spaceAfter s (deliver code) = s
+spaceAfter s (print x) = s
+
+-- BOUT's byte is appended: n bytes are written already
+unfoldable pub consoleAfter : List ℕ → ℕ → Effect → List ℕ
+consoleAfter con n nothing = con
+consoleAfter con n (turn t) = con
+consoleAfter con n (deliver code) = con
+consoleAfter con n (print x) = set con n x
 
 module _ {B : Type 0} (tr : Translator B) where
   -- "PDIR and SPAG, unless they fault, empty the buffer"
@@ -69,30 +77,38 @@ module _ {B : Type 0} (tr : Translator B) where
   bufferAfter b nothing = b
   bufferAfter b (turn t) = tr .empty b
   bufferAfter b (deliver code) = b
+  bufferAfter b (print x) = b
 
   unfoldable pub effectEvents : Effect → List Event
   effectEvents nothing = []
   effectEvents (turn t) = tr .emptyEvents
   effectEvents (deliver code) = delivered code ∷ []
+  effectEvents (print x) = []
 
-  -- a tree's end as a step from the record c: the step count and the address space are set here, and no rule can set them otherwise
-  unfoldable pub finished : Cpu → Ended B Final → Stepped B
-  unfolding spaceAfter bufferAfter effectEvents
-  finished c e = record {
-    state = record {
-      cpu = withSpace (spaceAfter (c .space) (e .leaf .effect)) (withRegs (withCount (c .regs .count + 1) (e .leaf .cpu .regs)) (e .leaf .cpu));
-      mem = storeAll (e .grants) (e .leaf .values) (e .mem);
-      console = e .leaf .console;
-      buffer = bufferAfter (e .buffer) (e .leaf .effect);
-    };
-    events = e .events ++ storeEvents (e .grants) (e .leaf .values) ++ effectEvents (e .leaf .effect);
+  -- where a tree's end leaves the machine, with the step count n: count and address space are set here, and no rule can set them otherwise
+  unfoldable pub finished : ℕ → Space → ℕ → List ℕ → Ended B Final → State B
+  unfolding spaceAfter consoleAfter bufferAfter
+  finished n s written con e = record {
+    cpu = withSpace (spaceAfter s (e .leaf .effect)) (withRegs (withCount n (e .leaf .cpu .regs)) (e .leaf .cpu));
+    mem = storeAll (e .grants) (e .leaf .values) (e .mem);
+    console = consoleAfter con written (e .leaf .effect);
+    buffer = bufferAfter (e .buffer) (e .leaf .effect);
   }
 
+  unfoldable pub finishedEvents : Ended B Final → List Event
+  unfolding effectEvents
+  finishedEvents e = e .events ++ storeEvents (e .grants) (e .leaf .values) ++ effectEvents (e .leaf .effect)
+
+  -- a tree's end as a step from the record c
+  unfoldable pub steppedBy : Cpu → List ℕ → Ended B Final → Stepped B
+  unfolding finished finishedEvents
+  steppedBy c con e = record { state = finished (c .regs .count + 1) (c .space) (c .written) con e; events = finishedEvents e }
+
   unfoldable pub stepBy : Next → State B → Stepped B
-  unfolding stepTree finished
+  unfolding stepTree steppedBy
   stepBy k s =
-      finished (s .cpu)
-      (interpret tr (s .cpu .space) (s .cpu .system .user) (stepTree k (length (s .mem)) (s .console) (s .cpu)) (s .mem) (s .buffer) [])
+      steppedBy (s .cpu) (s .console)
+      (interpret tr (s .cpu .space) (s .cpu .system .user) (stepTree k (length (s .mem)) (length (s .console)) (s .cpu)) (s .mem) (s .buffer) [])
 
   -- one step, with a list of keys
   unfoldable pub step : List Key → State B → Stepped B

@@ -18,15 +18,7 @@ use Rattle.rules.specs.Record.{setPc, setSp, withSp, withRegs, withSyste
 use Rattle.rules.specs.Tree.{Reply, got, denied, Tree, ask, done, access}
 use Rattle.rules.specs.Arithmetic.{flag}
 use Rattle.rules.specs.Execute.{moved}
-use Rattle.rules.specs.Trap.{Final, final, Effect, turn, nextPc, trapTree, faultTree}
-
--- the end of a privileged instruction that changes the record alone
-abbrev pub ended : Cpu → List ℕ → Tree Final
-ended c con = done (final c con)
-
--- PDIR and SPAG: the address space is set
-abbrev pub turned : Cpu → List ℕ → Space → Tree Final
-turned c con s = done (record { cpu = c; console = con; values = []; effect = turn s })
+use Rattle.rules.specs.Trap.{Final, final, ended, turn, print, nextPc, trapTree, faultTree}
 
 -- "if the code contains the mark of value 16, ksp = sp, sp = usp, user = 1"
 abbrev pub backTo : Bool → Cpu → Cpu
@@ -38,56 +30,60 @@ abbrev pub returned : Cpu → ℕ → ℕ → Cpu
 returned c code pc =
     backTo (bit USER code) (withRegs (setPc pc (setSp (sum (c .regs .sp) 16) (c .regs))) (withSystem (withIena true (c .system)) c))
 
-abbrev pub orFault : Cpu → List ℕ → (ℕ → Tree Final) → Reply → Tree Final
-orFault c con k (got v) = k v
-orFault c con k (denied f) = faultTree c con f (nextPc c)
+abbrev pub orFault : Cpu → (ℕ → Tree Final) → Reply → Tree Final
+orFault c k (got v) = k v
+orFault c k (denied f) = faultTree c f (nextPc c)
 
-unfoldable pub rtiTree : Cpu → List ℕ → Tree Final
+unfoldable pub rtiTree : Cpu → Tree Final
 unfolding faultTree bit
-rtiTree c con =
-    ask (access Read 4 (c .regs .sp)) (orFault c con (λ code.
-    ask (access Read 4 (sum (c .regs .sp) 8)) (orFault c con (λ pc.
-    ended (returned c code pc) con))))
+rtiTree c =
+    ask (access Read 4 (c .regs .sp)) (orFault c (λ code.
+    ask (access Read 4 (sum (c .regs .sp) 8)) (orFault c (λ pc.
+    ended (returned c code pc)))))
 
--- "BOUT: b's low byte appended, a = 1; console full, a = 0xFFFFFFFF"
-unfoldable pub boutTree : Cpu → List ℕ → Tree Final
-boutTree c con =
-    if ltb (c .written) (length con)
-    then ended (putA 1 (withWritten (c .written + 1) c)) (set con (c .written) (c .regs .b % 256))
-    else ended (putA 0xffffffff c) con
+-- "BOUT: b's low byte appended, a = 1; console full, a = 0xFFFFFFFF"; room is the console's length
+unfoldable pub boutTree : ℕ → Cpu → Tree Final
+boutTree room c =
+    if ltb (c .written) room
+    then final (putA 1 (withWritten (c .written + 1) c)) [] (print (c .regs .b % 256))
+    else ended (putA 0xffffffff c)
 
 -- "PDIR: a not below M is FMEM with vadr = a; low twelve bits drop"; `old` is the record before the fetch
-unfoldable pub pdirTree : ℕ → Cpu → Cpu → List ℕ → Tree Final
+unfoldable pub pdirTree : ℕ → Cpu → Cpu → Tree Final
 unfolding faultTree
-pdirTree size old c con =
+pdirTree size old c =
     if ltb (c .regs .a) size
-    then turned c con (record { pdir = cut 4096 (c .regs .a); paging = c .space .paging })
-    else faultTree old con (record { code = FMEM; address = c .regs .a }) (nextPc old)
+    then final c [] (turn (record { pdir = cut 4096 (c .regs .a); paging = c .space .paging }))
+    else faultTree old (record { code = FMEM; address = c .regs .a }) (nextPc old)
+
+-- "SPAG: paging = (a ≠ 0)"
+abbrev pub spagTree : Cpu → Tree Final
+spagTree c = final c [] (turn (record { pdir = c .space .pdir; paging = not (eqb (c .regs .a) 0) }))
 
 -- what each does: `old` is the record before the fetch, c has pc moved on
-unfoldable pub privilegedTree : ℕ → SysOp → Cpu → Cpu → List ℕ → Tree Final
+unfoldable pub privilegedTree : (size room : ℕ) → SysOp → Cpu → Cpu → Tree Final
 unfolding rtiTree boutTree pdirTree
-privilegedTree size Halt old c con = ended (withStop Halted c) con
-privilegedTree size Cli old c con = ended (putA (flag (c .system .iena)) (withSystem (withIena false (c .system)) c)) con
-privilegedTree size Sti old c con = ended (withSystem (withIena true (c .system)) c) con
-privilegedTree size Rti old c con = rtiTree old con
-privilegedTree size Bin old c con = ended (putA (c .clock .kbchar) (withClock (withKbchar 0xffffffff (c .clock)) c)) con
-privilegedTree size Bout old c con = boutTree c con
-privilegedTree size Ssp old c con = ended (withSystem (withKsp (cut 8 (c .regs .a)) (c .system)) c) con
-privilegedTree size Ivec old c con = ended (withSystem (withIvec (cut 4 (c .regs .a)) (c .system)) c) con
-privilegedTree size Pdir old c con = pdirTree size old c con
-privilegedTree size Spag old c con = turned c con (record { pdir = c .space .pdir; paging = not (eqb (c .regs .a) 0) })
-privilegedTree size (Time i) old c con = ended (if eqb i 0 then withClock (withTimeout (c .regs .a) (c .clock)) c else c) con
-privilegedTree size Lvad old c con = ended (putA (c .vadr) c) con
-privilegedTree size Lusp old c con = ended (putA (c .system .usp) c) con
-privilegedTree size Susp old c con = ended (withSystem (withUsp (cut 8 (c .regs .a)) (c .system)) c) con
-privilegedTree size Msiz old c con = ended (putA size c) con
-privilegedTree size Idle old c con = ended (withSystem (withWaiting (c .system .iena) (c .system)) c) con
+privilegedTree size room Halt old c = ended (withStop Halted c)
+privilegedTree size room Cli old c = ended (putA (flag (c .system .iena)) (withSystem (withIena false (c .system)) c))
+privilegedTree size room Sti old c = ended (withSystem (withIena true (c .system)) c)
+privilegedTree size room Rti old c = rtiTree old
+privilegedTree size room Bin old c = ended (putA (c .clock .kbchar) (withClock (withKbchar 0xffffffff (c .clock)) c))
+privilegedTree size room Bout old c = boutTree room c
+privilegedTree size room Ssp old c = ended (withSystem (withKsp (cut 8 (c .regs .a)) (c .system)) c)
+privilegedTree size room Ivec old c = ended (withSystem (withIvec (cut 4 (c .regs .a)) (c .system)) c)
+privilegedTree size room Pdir old c = pdirTree size old c
+privilegedTree size room Spag old c = spagTree c
+privilegedTree size room (Time i) old c = ended (if eqb i 0 then withClock (withTimeout (c .regs .a) (c .clock)) c else c)
+privilegedTree size room Lvad old c = ended (putA (c .vadr) c)
+privilegedTree size room Lusp old c = ended (putA (c .system .usp) c)
+privilegedTree size room Susp old c = ended (withSystem (withUsp (cut 8 (c .regs .a)) (c .system)) c)
+privilegedTree size room Msiz old c = ended (putA size c)
+privilegedTree size room Idle old c = ended (withSystem (withWaiting (c .system .iena) (c .system)) c)
 
 -- "Privileged: the source's fifteen, and SSP"
-unfoldable pub systemTree : ℕ → SysOp → Cpu → List ℕ → Tree Final
+unfoldable pub systemTree : (size room : ℕ) → SysOp → Cpu → Tree Final
 unfolding privilegedTree trapTree
-systemTree size op c con =
+systemTree size room op c =
     if c .system .user
-    then trapTree c con FPRIV (nextPc c)
-    else privilegedTree size op c (withRegs (moved (c .regs)) c) con
+    then trapTree c FPRIV (nextPc c)
+    else privilegedTree size room op c (withRegs (moved (c .regs)) c)

@@ -2,6 +2,7 @@
 use Prim.Native.Nat.{ℕ, _+_, _*_, _%_, _^_}
 use Rattle.word.specs.Word.{sum, difference, extend}
 use Rattle.memory.specs.declared.Size.{Size}
+use Rattle.memory.specs.declared.Size.the-variants.{Word, Half, Byte}
 use Rattle.memory.specs.Memory.{bytes}
 use Rattle.decode.specs.declared.Reg.{Reg}
 use Rattle.decode.specs.declared.Reg.the-variants as reg
@@ -31,13 +32,13 @@ baseOf base.Pc r = r .pc
 baseOf base.A r = r .a
 baseOf base.B r = r .b
 
--- the bytes of a format
-abbrev pub formatBytes : Format → ℕ
-formatBytes Uint = 4
-formatBytes Short = 2
-formatBytes Ushort = 2
-formatBytes Char = 1
-formatBytes Uchar = 1
+-- the size of what is loaded
+abbrev pub formatSize : Format → Size
+formatSize Uint = Word
+formatSize Short = Half
+formatSize Ushort = Half
+formatSize Char = Byte
+formatSize Uchar = Byte
 
 -- "S and C forms extend the sign, H and B don't"
 abbrev pub widened : Format → ℕ → ℕ
@@ -48,7 +49,7 @@ widened Char v = extend 8 v
 widened Uchar v = v
 
 unfoldable pub loadTree : Reg → Base → Format → ℕ → Regs → Tree Out
-loadTree d b f imm r = reading (formatBytes f) (sum (baseOf b r) imm) (λ v. plain (putReg d (widened f v) r))
+loadTree d b f imm r = reading (bytes (formatSize f)) (sum (baseOf b r) imm) (λ v. plain (putReg d (widened f v) r))
 
 -- stores are of register a
 unfoldable pub storeTree : Base → Size → ℕ → Regs → Tree Out

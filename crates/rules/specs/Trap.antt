@@ -11,25 +11,26 @@ use Rattle.rules.specs.declared.Cpu.{Cpu}
 use Rattle.rules.specs.Record.{withSp, withPc, withRegs, withSystem, withStop, withVadr, withUsp, withUser, withIena}
 use Rattle.rules.specs.Tree.{Reply, got, denied, Tree, ask, done, slots}
 
--- what a step does beyond the record and memory: nothing; PDIR or SPAG set the address space; a trap frame is delivered, with its code
+-- what a step does beyond the record and memory: nothing; PDIR or SPAG set the address space; a trap frame is delivered, with its code; a byte goes
+-- to the console
 pub data Effect : Type 0 where
   none : Effect
   turn : Space → Effect
   deliver : ℕ → Effect
+  print : ℕ → Effect
 
--- the end of a step: the record, the console, the values stored, the effect
+-- the end of a step: the record, the values stored, the effect
 pub record Final : Type 0 where
   pub cpu : Cpu
-  pub console : List ℕ
   pub values : List ℕ
   pub effect : Effect
 
-abbrev pub final : Cpu → List ℕ → Final
-final c con = record { cpu = c; console = con; values = []; effect = none }
+abbrev pub final : Cpu → List ℕ → Effect → Tree Final
+final c vs e = done (record { cpu = c; values = vs; effect = e })
 
--- a stop "leaves registers, user, iena and pc as before the fetch or delivery"
-abbrev pub stopped : Cpu → List ℕ → Tree Final
-stopped c con = done (final c con)
+-- the record changes, and nothing else
+abbrev pub ended : Cpu → Tree Final
+ended c = final c [] none
 
 -- the stack of the trap: "from user mode usp = sp, sp = ksp"
 abbrev pub kernelSp : Cpu → ℕ
@@ -48,24 +49,25 @@ entered c =
     withRegs (withPc (c .system .ivec) (withSp (difference (kernelSp c) 16) (c .regs)))
     (withSystem (withUsp (savedUsp c) (withUser false (withIena false (c .system)))) c)
 
-abbrev pub framed : Cpu → List ℕ → ℕ → ℕ → Reply → Tree Final
-framed c con code pc (got x) = done (record { cpu = entered c; console = con; values = pc ∷ codeOf c code ∷ []; effect = deliver code })
-framed c con code pc (denied f) = stopped (withStop NoFrame c) con
+-- a stop "leaves registers, user, iena and pc as before the fetch or delivery"
+abbrev pub framed : Cpu → ℕ → ℕ → Reply → Tree Final
+framed c code pc (got x) = final (entered c) (pc ∷ codeOf c code ∷ []) (deliver code)
+framed c code pc (denied f) = ended (withStop NoFrame c)
 
 -- "Slots sp-8 (pc) and sp-16 (code) are both translated for kernel writing, in that order, before either is stored; a refusal stops with 3"
-unfoldable pub deliverTree : Cpu → List ℕ → ℕ → ℕ → Tree Final
-deliverTree c con code pc = ask (slots (difference (kernelSp c) 8) (difference (kernelSp c) 16)) (framed c con code pc)
+unfoldable pub deliverTree : Cpu → ℕ → ℕ → Tree Final
+deliverTree c code pc = ask (slots (difference (kernelSp c) 8) (difference (kernelSp c) 16)) (framed c code pc)
 
 -- "If iena = 0 a fault or TRAP stops with 2"
-unfoldable pub trapTree : Cpu → List ℕ → ℕ → ℕ → Tree Final
+unfoldable pub trapTree : Cpu → ℕ → ℕ → Tree Final
 unfolding deliverTree
-trapTree c con code pc = if c .system .iena then deliverTree c con code pc else stopped (withStop Masked c) con
+trapTree c code pc = if c .system .iena then deliverTree c code pc else ended (withStop Masked c)
 
 -- "The pc stored is the next instruction's for faults in execution and TRAP"
 abbrev pub nextPc : Cpu → ℕ
 nextPc c = sum (c .regs .pc) 4
 
 -- a denied access sets vadr
-unfoldable pub faultTree : Cpu → List ℕ → Fault → ℕ → Tree Final
+unfoldable pub faultTree : Cpu → Fault → ℕ → Tree Final
 unfolding trapTree
-faultTree c con f pc = trapTree (withVadr (f .address) c) con (f .code) pc
+faultTree c f pc = trapTree (withVadr (f .address) c) (f .code) pc
