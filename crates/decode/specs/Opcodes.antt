@@ -30,7 +30,7 @@ k is i = record { code = k; means = i }
 -- what the row of this opcode byte means; a byte without a row is illegal
 abbrev pub find : ℕ → List Row → Instr
 find op [] = Illegal
-find op (r ∷ t) = if eqb op (r .code) then r .means else find op t
+find op (r ∷ t) = let rest = find op t in if eqb op (r .code) then r .means else rest
 
 -- the rows, by opcode byte; imm is the word's upper 24 bits with their sign, field the same bits without
 unfoldable pub table : ℕ → ℕ → List Row
@@ -182,33 +182,41 @@ opcodeOf op imm field = find op (table imm field)
 unfoldable pub decodeOf : ℕ → Instr
 decodeOf w = opcodeOf (w % 256) (extend 24 (w / 256)) (w / 256)
 
--- the instructions that fault in user mode
+-- one value for the illegal instruction, one for the privileged ones and one for the others
+abbrev pub byClass : {A : Type 0} → A → A → A → Instr → A
+byClass x y z Illegal = x
+byClass x y z Nop = z
+byClass x y z Trap = z
+byClass x y z Cyc = z
+byClass x y z Jsra = z
+byClass x y z Lba = z
+byClass x y z Lca = z
+byClass x y z (Ent _) = z
+byClass x y z (Lev _) = z
+byClass x y z (Jmp _) = z
+byClass x y z (Jmpi _) = z
+byClass x y z (Jsr _) = z
+byClass x y z (Lea _) = z
+byClass x y z (Leag _) = z
+byClass x y z (Block _) = z
+byClass x y z (Load _ _ _ _) = z
+byClass x y z (Store _ _ _) = z
+byClass x y z (LoadImm _ _) = z
+byClass x y z (LoadHigh _ _) = z
+byClass x y z (Alu _ _) = z
+byClass x y z (Compare _) = z
+byClass x y z (Bz _) = z
+byClass x y z (Bnz _) = z
+byClass x y z (Branch _ _) = z
+byClass x y z (Push _) = z
+byClass x y z (Pshi _) = z
+byClass x y z (Pop _) = z
+byClass x y z (Sys _) = y
+
+-- the instructions that are refused in every mode
+abbrev pub isIllegal : Instr → Bool
+isIllegal i = byClass true false false i
+
+-- the instructions that are refused in user mode
 abbrev pub isPrivileged : Instr → Bool
-isPrivileged Illegal = false
-isPrivileged Nop = false
-isPrivileged Trap = false
-isPrivileged Cyc = false
-isPrivileged Jsra = false
-isPrivileged Lba = false
-isPrivileged Lca = false
-isPrivileged (Ent _) = false
-isPrivileged (Lev _) = false
-isPrivileged (Jmp _) = false
-isPrivileged (Jmpi _) = false
-isPrivileged (Jsr _) = false
-isPrivileged (Lea _) = false
-isPrivileged (Leag _) = false
-isPrivileged (Block _) = false
-isPrivileged (Load _ _ _ _) = false
-isPrivileged (Store _ _ _) = false
-isPrivileged (LoadImm _ _) = false
-isPrivileged (LoadHigh _ _) = false
-isPrivileged (Alu _ _) = false
-isPrivileged (Compare _) = false
-isPrivileged (Bz _) = false
-isPrivileged (Bnz _) = false
-isPrivileged (Branch _ _) = false
-isPrivileged (Push _) = false
-isPrivileged (Pshi _) = false
-isPrivileged (Pop _) = false
-isPrivileged (Sys _) = true
+isPrivileged i = byClass false true false i
