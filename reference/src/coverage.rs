@@ -65,6 +65,10 @@ impl Default for Coverage {
     }
 }
 
+fn sum(mine: &mut [u64], theirs: &[u64]) {
+    mine.iter_mut().zip(theirs).for_each(|(count, more)| *count += more);
+}
+
 const ACCESSES: [&str; 3] = ["fetch", "read", "write"];
 const MODES: [&str; 2] = ["kernel", "user"];
 const STOPS: [&str; 4] = ["running", "halted", "trap masked", "no frame"];
@@ -95,13 +99,20 @@ impl Coverage {
     }
 
     pub fn add(&mut self, other: &Coverage) {
-        let mut theirs = Vec::new();
-        other.clone().each(|_, count, _| theirs.push(*count));
-        let mut at = 0;
-        self.each(|_, count, _| {
-            *count += theirs[at];
-            at += 1;
-        });
+        self.runs += other.runs;
+        self.steps += other.steps;
+        self.added += other.added;
+        self.replaced += other.replaced;
+        sum(&mut self.completed, &other.completed);
+        sum(&mut self.faulted, &other.faulted);
+        sum(self.hits.as_flattened_mut(), other.hits.as_flattened());
+        sum(self.walks_kept.as_flattened_mut(), other.walks_kept.as_flattened());
+        sum(self.walks_faulted.as_flattened_mut(), other.walks_faulted.as_flattened());
+        sum(&mut self.emptied, &other.emptied);
+        sum(self.traps.as_flattened_mut(), other.traps.as_flattened());
+        sum(&mut self.stops, &other.stops);
+        sum(&mut self.answers, &other.answers);
+        sum(&mut self.held_stores, &other.held_stores);
     }
 
     /// The kinds a machine with a buffer must reach and these runs did not.
@@ -171,7 +182,9 @@ impl Coverage {
         for code in 0..=255u8 {
             let at = usize::from(code);
             let name = format!("{code:02x} {}", name_of(code));
-            visit(&format!("{name} completed"), &mut self.completed[at], is_legal(code));
+            // TRAP never completes: it always traps or stops.
+            let completes = is_legal(code) && name_of(code) != "TRAP";
+            visit(&format!("{name} completed"), &mut self.completed[at], completes);
             let faults = decode(code).is_none_or(can_fault_in_kernel) || is_privileged(code);
             visit(&format!("{name} faulted"), &mut self.faulted[at], faults);
         }

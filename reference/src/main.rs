@@ -1,24 +1,30 @@
 //! The commands; `README.md` describes them.
 
 use reference::case::decode::read_case;
+use reference::case::encode::encode;
+use reference::case::Case;
+use reference::compare::{compare, Question, Verdict};
+use reference::coverage::Coverage;
 use reference::expect::expect;
 use reference::line::line;
+use reference::mistake::Mistake;
+use reference::mutants::Judge;
+use reference::random::scene::{case, Purpose};
 use std::io::{self, BufReader, BufWriter, Read, Write};
 use std::process::ExitCode;
 
 const USAGE: &str = "usage:
-  reference expect < cases      what must come out of each case
-  reference line < executable   the run program's line
-";
+  reference write-cases [--seed S] [--count N]  random cases, in FORMAT.md's bytes
+  reference expect < cases                      what must come out of each case
+  reference coverage < cases                    what the cases cover, counted
+  reference compare [--seed S] [--count N]      both machines over random runs
+  reference line < executable                   the run program's line";
+
+type Done = Result<(), String>;
 
 fn main() -> ExitCode {
     let words: Vec<String> = std::env::args().skip(1).collect();
-    let done = match words.first().map(String::as_str) {
-        Some("expect") => print_expected(),
-        Some("line") => print_line(),
-        _ => Err(USAGE.to_string()),
-    };
-    match done {
+    match command(&words) {
         Ok(()) => ExitCode::SUCCESS,
         Err(text) => {
             eprintln!("{text}");
@@ -27,22 +33,99 @@ fn main() -> ExitCode {
     }
 }
 
-fn print_expected() -> Result<(), String> {
-    let mut input = BufReader::new(io::stdin().lock());
-    let mut output = BufWriter::new(io::stdout().lock());
-    let mut number = 0;
-    while let Some(case) = read_case(&mut input)? {
-        for line in expect(number, &case, None).lines {
-            writeln!(output, "{line}").map_err(|error| error.to_string())?;
-        }
-        number += 1;
+fn command(words: &[String]) -> Done {
+    let Some((name, options)) = words.split_first() else { return Err(USAGE.to_string()) };
+    let seed = option(options, "--seed", 1)?;
+    let count = option(options, "--count", 1000)?;
+    match name.as_str() {
+        "write-cases" => write_cases(seed, count),
+        "expect" => print_expected(),
+        "coverage" => print_coverage(),
+        "compare" => print_comparison(seed, count),
+        "mutants" => print_mutants(seed, count),
+        "line" => print_line(),
+        _ => Err(USAGE.to_string()),
     }
-    output.flush().map_err(|error| error.to_string())
 }
 
-fn print_line() -> Result<(), String> {
+fn option(words: &[String], name: &str, default: u64) -> Result<u64, String> {
+    let Some(at) = words.iter().position(|word| word == name) else { return Ok(default) };
+    let value = words.get(at + 1).and_then(|word| word.parse().ok());
+    value.ok_or_else(|| format!("{name} takes a number"))
+}
+
+fn text(error: io::Error) -> String {
+    error.to_string()
+}
+
+fn write_cases(seed: u64, count: u64) -> Done {
+    let mut output = BufWriter::new(io::stdout().lock());
+    for number in 0..count {
+        output.write_all(&encode(&case(seed, number, Purpose::Any))).map_err(text)?;
+    }
+    output.flush().map_err(text)
+}
+
+fn each_case(mut visit: impl FnMut(usize, Case) -> Done) -> Done {
+    let mut input = BufReader::new(io::stdin().lock());
+    let mut number = 0;
+    while let Some(case) = read_case(&mut input)? {
+        visit(number, case)?;
+        number += 1;
+    }
+    Ok(())
+}
+
+fn print_expected() -> Done {
+    let mut output = BufWriter::new(io::stdout().lock());
+    each_case(|number, case| {
+        let expected = expect(number, &case, None);
+        expected.lines.iter().try_for_each(|line| writeln!(output, "{line}")).map_err(text)
+    })?;
+    output.flush().map_err(text)
+}
+
+fn print_coverage() -> Done {
+    let mut coverage = Coverage::default();
+    each_case(|number, case| {
+        coverage.add(&expect(number, &case, None).coverage);
+        Ok(())
+    })?;
+    let answers: Vec<u32> = (0..12).collect();
+    print!("{}", coverage.report());
+    println!("missing: {:?}", coverage.missing(&answers));
+    Ok(())
+}
+
+fn print_comparison(seed: u64, count: u64) -> Done {
+    let mut coverage = Coverage::default();
+    let mut ended = 0;
+    for number in 0..count {
+        let Case::Runs(runs) = case(seed, number, Purpose::TwoMachines) else { continue };
+        match compare(&runs, Question::default(), &mut coverage) {
+            Verdict::Equal => {}
+            Verdict::EqualToStore => ended += 1,
+            Verdict::Different(text) => return Err(format!("case {number}: {text}")),
+        }
+    }
+    print!("{}", coverage.report());
+    println!("missing: {:?}", coverage.missing(&[0, 1, 2, 4, 5, 6]));
+    println!("{count} lists, {ended} of them ended at a store of demand 3's kind");
+    Ok(())
+}
+
+fn print_line() -> Done {
     let mut file = Vec::new();
-    io::stdin().lock().read_to_end(&mut file).map_err(|error| error.to_string())?;
+    io::stdin().lock().read_to_end(&mut file).map_err(text)?;
     println!("{}", line(&file));
+    Ok(())
+}
+
+fn print_mutants(seed: u64, count: u64) -> Done {
+    let cases: Vec<Case> = (0..count).map(|number| case(seed, number, Purpose::Any)).collect();
+    let judge = Judge::new(&cases);
+    for mistake in Mistake::ALL {
+        println!("{:>6} {mistake:?}: {}", judge.count_telling(*mistake), mistake.text());
+    }
     Ok(())
 }

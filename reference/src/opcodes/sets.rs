@@ -1,6 +1,8 @@
 //! Legal, illegal and privileged opcodes, derived from the table of 000 by the
 //! words of document 01, "What is emulated" and "Opcodes".
 
+use std::sync::LazyLock;
+
 use super::table::{Line, LINES, PRIVILEGED_IN_SOURCE};
 
 /// The words that make a line's opcode illegal.
@@ -42,18 +44,14 @@ pub fn code_of(name: &str) -> u8 {
 }
 
 /// All legal bytes in rising order.
-pub fn legal_codes() -> Vec<u8> {
-    (0..=255).filter(|code| is_legal(*code)).collect()
-}
-
+pub static LEGAL: LazyLock<Vec<u8>> = LazyLock::new(|| bytes_with(is_legal));
 /// All illegal bytes in rising order.
-pub fn illegal_codes() -> Vec<u8> {
-    (0..=255).filter(|code| !is_legal(*code)).collect()
-}
-
+pub static ILLEGAL: LazyLock<Vec<u8>> = LazyLock::new(|| bytes_with(|code| !is_legal(code)));
 /// All privileged bytes in rising order.
-pub fn privileged_codes() -> Vec<u8> {
-    (0..=255).filter(|code| is_privileged(*code)).collect()
+pub static PRIVILEGED: LazyLock<Vec<u8>> = LazyLock::new(|| bytes_with(is_privileged));
+
+fn bytes_with(holds: fn(u8) -> bool) -> Vec<u8> {
+    (0..=255).filter(|code| holds(*code)).collect()
 }
 
 #[cfg(test)]
@@ -62,9 +60,9 @@ mod tests {
 
     #[test]
     fn counts() {
-        assert_eq!(legal_codes().len(), 137);
-        assert_eq!(illegal_codes().len(), 119);
-        assert_eq!(privileged_codes().len(), 16);
+        assert_eq!(LEGAL.len(), 137);
+        assert_eq!(ILLEGAL.len(), 119);
+        assert_eq!(PRIVILEGED.len(), 16);
     }
 
     #[test]
@@ -80,6 +78,6 @@ mod tests {
 
     #[test]
     fn privileged_opcodes_are_legal() {
-        assert!(privileged_codes().into_iter().all(is_legal));
+        assert!(PRIVILEGED.iter().all(|code| is_legal(*code)));
     }
 }

@@ -1,0 +1,11 @@
+//! Random cases. Everything follows from a seed and a case's number.
+
+pub mod files;
+pub mod keys;
+pub mod program;
+pub mod record;
+pub mod rng;
+pub mod scene;
+pub mod space;
+pub mod trim;
+pub mod values;
