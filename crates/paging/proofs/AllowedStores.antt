@@ -1,0 +1,110 @@
+-- Document 01, "The table reader": stores and marks that are not of demand 3's kind, each by computing.
+use Prim.Native.Nat.{ℕ, zero, suc, _*_}
+use mathlib.Core.Path.{_≡_, refl}
+use mathlib.Core.Bool.{Bool, true, false}
+use mathlib.Core.List.{List, [], _∷_, _++_}
+use Rattle.memory.specs.Memory.{loadN}
+use Rattle.paging.specs.declared.Access.{Access}
+use Rattle.paging.specs.declared.Access.the-variants.{Read, Write}
+use Rattle.paging.specs.declared.Answer.{Answer}
+use Rattle.paging.specs.declared.Entry.{Entry}
+use Rattle.paging.specs.Event.{marked, stored, Words}
+use Rattle.paging.specs.Walk.{bit, mark, markFor, markEvents, dirAt, tabAt, allows, walk, found}
+use Rattle.paging.specs.Buffer.{serves, hit, has, place, fits, afterWalk, walkEvents}
+use Rattle.paging.specs.Held.{touches, touchesHeld, storesHeld}
+use Rattle.paging.specs.Translate.{Outcome, translateBy, paged, buffered}
+
+-- page 2 is held, with its directory word at 0x1000 and its table word at 0x2008
+pub held : List Words
+unfolding storesHeld touchesHeld touches
+held = record { page = 2; dir = 0x1000; tab = 0x2008 } ∷ []
+
+-- ---- other places
+
+-- a table word that no entry held was read from; user data
+pub elsewhere : storesHeld held (stored 0x2010 4 ∷ stored 0x3010 4 ∷ []) ≡ false
+unfolding held
+elsewhere = refl
+
+-- nothing is held
+pub nothing-held : storesHeld [] (stored 0x2008 4 ∷ []) ≡ false
+unfolding storesHeld touchesHeld
+nothing-held = refl
+
+-- ---- bytes beside the words
+
+-- the byte just before a word, and the store that ends there
+pub before-words : storesHeld held (stored 0xfff 1 ∷ stored 0xffc 4 ∷ stored 0x2007 1 ∷ stored 0x2004 4 ∷ []) ≡ false
+unfolding held
+before-words = refl
+
+-- the byte just after a word, and the store that begins there
+pub after-words : storesHeld held (stored 0x1004 1 ∷ stored 0x1004 4 ∷ stored 0x200c 1 ∷ stored 0x200c 4 ∷ []) ≡ false
+unfolding held
+after-words = refl
+
+-- ---- the walk's marks
+
+-- marks in words held
+pub marks-listed : storesHeld held (marked 0x1000 ∷ marked 0x2008 ∷ []) ≡ false
+unfolding held
+marks-listed = refl
+
+-- a small memory whose directory and table begin at 0. Directory words: at 0 for pages 0 to 1023, at 4 for pages 1024 to 2047; both name the
+-- table at 0, so that pages 2 and 1026 share the table word at 8. Page 3's table word at 12 is not present.
+pub small : List ℕ
+small = 7 ∷ 0 ∷ 0 ∷ 0 ∷ 7 ∷ 0 ∷ 0 ∷ 0 ∷ 7 ∷ 0 ∷ 0 ∷ 0 ∷ 0 ∷ 0 ∷ 0 ∷ 0 ∷ []
+
+-- a kernel access to a page, in the machine with the page buffer
+pub asked : Access → ℕ → List ℕ → List Entry → Outcome (List Entry) Answer
+unfolding translateBy paged walk bit mark markFor markEvents dirAt tabAt allows loadN serves hit has place fits afterWalk walkEvents touches touchesHeld storesHeld
+asked k page m es = translateBy true 0 (record { kind = k; size = 4; addr = page * 4096; user = false }) m es
+
+-- page 2 is read, and so held without write right
+pub readPage : Outcome (List Entry) Answer
+unfolding asked small
+readPage = asked Read 2 small []
+
+-- what became of the table word that is held, and whether a store of demand 3's kind was made
+pub record Seen : Type 0 where
+  pub tableWord : ℕ
+  pub stores : Bool
+
+-- then a page is written
+pub written : ℕ → Seen
+unfolding readPage
+written page =
+    let o = asked Write page (readPage .mem) (readPage .buffer) in
+    record { tableWord = loadN 4 (o .mem) 8; stores = storesHeld [] (readPage .events ++ o .events) }
+
+-- the write sets D in the table word that is held
+pub marks-written : written 2 ≡ record { tableWord = 0x67; stores = false }
+unfolding written
+marks-written = refl
+
+-- and so does a write through another page
+pub marks-alias : written 1026 ≡ record { tableWord = 0x67; stores = false }
+unfolding written
+marks-alias = refl
+
+-- a walk that faults holds nothing: a store into the table word that it read
+pub faulting-walk : storesHeld [] ((asked Read 3 small []) .events ++ (stored 12 4 ∷ [])) ≡ false
+unfolding asked small
+faulting-walk = refl
+
+-- ---- entries that were emptied
+
+-- by PDIR or SPAG
+pub emptied-by-space : storesHeld held (buffered .emptyEvents ++ (stored 0x1000 4 ∷ stored 0x2008 4 ∷ [])) ≡ false
+unfolding held
+emptied-by-space = refl
+
+-- n entries, of the pages n - 1 down to 0
+pub entries : ℕ → List Entry
+entries zero = []
+entries (suc n) = record { page = n; frame = 0; user = true; write = true } ∷ entries n
+
+-- by the 65th page, number 64, whose own words are at 0x1000 and 0x2100
+pub emptied-by-page : storesHeld held (walkEvents 64 (entries 64) (found 0 true true 0x1000 0x2100) ++ (stored 0x2008 4 ∷ [])) ≡ false
+unfolding held entries place walkEvents fits has
+emptied-by-page = refl

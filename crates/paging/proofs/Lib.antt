@@ -1,0 +1,9 @@
+pub mod AllowedStores
+pub mod BoolLaws
+pub mod TableWord
+pub mod Coherent
+pub mod ServedRequest
+pub mod EventLaws
+pub mod CoherentWalk
+pub mod BufferLaws
+pub mod RequestAgrees
