@@ -264,6 +264,7 @@ pub fn opcode(op: u8, imm: u32, field: u32) -> Instr
         0xaf => Instr::Pop(Reg::C),
         0xb0 => Instr::Sys(SysOp::Msiz),
         0xd1 => Instr::Sys(SysOp::Idle),
+        // The bytes without a row in the table.
         0x13..=0x14
         | 0x1a..=0x1b
         | 0x21..=0x22
