@@ -16,19 +16,25 @@ use mir.Facts.{toZ-ofZ, ofZ-toZ, sfits-toZ}
 use Rattle.word.specs.Word.{quotient, remainder}
 use Rattle.word.proofs.Conversion.{on-signed}
 
--- ---- a test of two equations
+-- ---- the test for -2^31 by -1
+
+-- both parts of a test that passed
 both : (b c : Bool) → (b && c) ≡ true → (b ≡ true) × (c ≡ true)
 both true c e = (refl, e)
 both false c e = (e, cc)
 
+-- where it passed, f has the value that it has at the two constants
 pub passed : (f : ℕ → ℕ → ℕ) (x y : ℕ) {a b r : ℕ} → f a b ≡ r → (eqb x a && eqb y b) ≡ true → r ≡ f x y
 passed f x y {a} {b} e h = let t = both (eqb x a) (eqb y b) h in rw (eqb-true x a (t .0), eqb-true y b (t .1)) (sym e)
 
+-- where it failed, the two equations do not both hold
 pub failed : {x y a b : ℕ} → (eqb x a && eqb y b) ≡ false → x ≡ a → y ≡ b → ⊥
 failed {x} {y} {a} {b} h p q =
     let e : true ≡ false = rw (eq-eqb x a p, eq-eqb y b q) at h in let z : _≡_ {A = ℕ} 0 1 = cc in omega arith
 
 -- ---- the range
+
+-- a negative number of at most h in size is in the range of h
 mag-neg : (r : ℕ) {h : ℕ} → 0 < h → r ≤ h → mag (negℤ (pos r)) < h
 mag-neg zero p q = p
 mag-neg (suc r) p q = q
@@ -45,10 +51,12 @@ quotZ-fits (negsuc a) (negsuc (suc b)) f h =
     let l : suc a / suc (suc b) < suc a = div-lt-self (omega arith) (omega arith) in
     record { sfits = omega (arith, f .sfits) }
 
+-- a remainder stays in the range
 pub remainder-fits : {x : ℕ} → Fits w32 x → (y : ℕ) → SFits w32 (remZ (toZ w32 x) (toZ w32 y))
 remainder-fits {x} fx y = record { sfits = lt-of-le-of-lt (mag-rem (toZ w32 x) (toZ w32 y)) (sfits-toZ fx .sfits) }
 
 module _ {x y : ℕ} (fx : Fits w32 x) (fy : Fits w32 y) where
+  -- and so does a quotient, -2^31 by -1 apart
   pub quotient-fits : (x ≡ 2147483648 → y ≡ 4294967295 → ⊥) → SFits w32 (quotZ (toZ w32 x) (toZ w32 y))
   quotient-fits h =
       quotZ-fits (toZ w32 x) (toZ w32 y) (sfits-toZ fx)
@@ -59,60 +67,61 @@ module _ {x y : ℕ} (fx : Fits w32 x) (fy : Fits w32 y) where
       → (0 < ofZ w32 d) × SFits w32 (quotZ (toZ w32 (ofZ w32 z)) (toZ w32 (ofZ w32 d)))
   division-safe p q n h = (rw (q, ofZ-toZ fy) n, rw (on-signed fx fy p q quotZ) (quotient-fits h))
 
--- ---- -2^31 by -1
-pub quotient-least : quotient 0x80000000 0xFFFFFFFF ≡ 0x80000000
-unfolding quotient
-quotient-least = refl
+-- ---- the law
 
-pub remainder-least : remainder 0x80000000 0xFFFFFFFF ≡ 0
-unfolding remainder
-remainder-least = refl
-
--- ---- what the quotient q and the remainder r of a by b are: a = q b + r, |r| < |b|, and r is 0 or has a's sign
+-- the quotient q and the remainder r of a by b: a = q b + r, |r| < |b|, and r is 0 or has a's sign
 pub record Divided (a b q r : ℤ) : Type 0 where
   pub whole : q *ℤ b +ℤ r ≡ a
   pub small : natAbs r < natAbs b
   pub sign : (r ≡ pos 0) ⊎ (nonNeg r ≡ nonNeg a)
 
--- a product and a sum of negative numbers
+-- -q times b
 neg-times : (q b : ℕ) → negℤ (pos q) *ℤ pos b ≡ negℤ (pos (q * b))
 neg-times zero b = rw zero-mul
 neg-times (suc q) b = refl
 
+-- -q times a negative number
 neg-times-neg : (q b : ℕ) → negℤ (pos q) *ℤ negsuc b ≡ pos (q * suc b)
 neg-times-neg zero b = rw zero-mul
 neg-times-neg (suc q) b = refl
 
+-- division of a negative number by the size of the divisor
 neg-whole : (n b : ℕ) → negℤ (pos (n / b * b)) +ℤ negℤ (pos (n % b)) ≡ negℤ (pos n)
 neg-whole n b = sym (negℤ-+ℤ (pos (n / b * b)) (pos (n % b))) ∙ ap (λ (k : ℕ). negℤ (pos k)) (div-add-mod' n b)
 
+-- a = q b + r
 whole-of : (z d : ℤ) → quotZ z d *ℤ d +ℤ remZ z d ≡ z
 whole-of (pos a) (pos b) = ap pos (div-add-mod' a b)
-whole-of (pos a) (negsuc b) = rw (neg-times-neg) (ap pos (div-add-mod' a (suc b)))
-whole-of (negsuc a) (pos b) = rw (neg-times) (neg-whole (suc a) b)
+whole-of (pos a) (negsuc b) = rw neg-times-neg (ap pos (div-add-mod' a (suc b)))
+whole-of (negsuc a) (pos b) = rw neg-times (neg-whole (suc a) b)
 whole-of (negsuc a) (negsuc b) = neg-whole (suc a) (suc b)
 
+-- the size of a negative number
 abs-neg : (r : ℕ) → natAbs (negℤ (pos r)) ≡ r
 abs-neg zero = refl
 abs-neg (suc r) = refl
 
+-- |r| < |b|
 small-of : (z d : ℤ) → 0 < natAbs d → natAbs (remZ z d) < natAbs d
 small-of (pos a) d h = mod-lt a h
 small-of (negsuc a) d h = rw abs-neg (mod-lt (suc a) h)
 
+-- a negative number has its sign, or is 0
 sign-neg : (r : ℕ) → (negℤ (pos r) ≡ pos 0) ⊎ (nonNeg (negℤ (pos r)) ≡ false)
 sign-neg zero = inl refl
 sign-neg (suc r) = inr refl
 
+-- r is 0 or has a's sign
 sign-of : (z d : ℤ) → (remZ z d ≡ pos 0) ⊎ (nonNeg (remZ z d) ≡ nonNeg z)
 sign-of (pos a) d = inr refl
 sign-of (negsuc a) d = sign-neg (suc a % natAbs d)
 
+-- a word that is not 0 has a signed reading that is not 0
 abs-pos : (z : ℤ) → SFits w32 z → 0 < ofZ w32 z → 0 < natAbs z
 abs-pos (pos n) f h = h
 abs-pos (negsuc n) f h = omega arith
 
--- the law, for every dividend and every divisor but 0; -2^31 by -1 is apart
+-- for every dividend and every divisor but 0, -2^31 by -1 apart
 pub divided : (x y : ℕ) → x < 2 ^ 32 → y < 2 ^ 32 → 0 < y → (x ≡ 0x80000000 → y ≡ 0xFFFFFFFF → ⊥)
     → Divided (toZ w32 x) (toZ w32 y) (toZ w32 (quotient x y)) (toZ w32 (remainder x y))
 unfolding quotient remainder
@@ -125,3 +134,15 @@ divided x y hx hy p h =
       small = small-of (toZ w32 x) (toZ w32 y) (abs-pos (toZ w32 y) (sfits-toZ fy) (rw (ofZ-toZ fy) p));
       sign = sign-of (toZ w32 x) (toZ w32 y);
     })
+
+-- ---- -2^31 by -1
+
+-- the quotient is 0x80000000
+pub quotient-least : quotient 0x80000000 0xFFFFFFFF ≡ 0x80000000
+unfolding quotient
+quotient-least = refl
+
+-- the remainder is 0
+pub remainder-least : remainder 0x80000000 0xFFFFFFFF ≡ 0
+unfolding remainder
+remainder-least = refl

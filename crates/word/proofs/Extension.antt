@@ -1,19 +1,20 @@
 -- Sign extension, once over the width. Document 01, "Opcodes": "S and C forms extend the sign", "The upper 24 are imm, signed".
 -- Assumes nothing.
 use Prim.Native.Nat.{ℕ, zero, suc, _+_, _*_, _-_, _^_, _≤_, _<_}
-use mathlib.Core.Path.{_≡_, refl, ap, _∙_}
+use mathlib.Core.Path.{_≡_, refl}
 use mathlib.Core.Bool.{Bool, true, false}
 use native.Mathlib.Nat.{pow-suc}
 use native.Mathlib.Omega.{arith}
 use borrow.Author.Tests.{lt-ltb, le-ltb, ltb-true, ltb-false}
 use lib.Dec.{ltb}
 use lib.Pow.{pow-mono}
-use lib.IntN.{ℤ, pos, negsuc}
+use lib.IntN.{pos, negsuc}
 use mir.Syntax.{w32}
 use mir.Val.{toZ}
 use mir.Facts.{toZ-pos, toZ-neg}
 use Rattle.word.specs.Word.{extend, if_then_else_}
 
+-- a number x of n bits
 module _ (n : ℕ) {x : ℕ} where
   -- the sign bit is clear
   pub extend-clear : x < 2 ^ (n - 1) → x ≡ extend n x
@@ -25,12 +26,14 @@ module _ (n : ℕ) {x : ℕ} where
   unfolding extend
   extend-set h = rw (le-ltb x (2 ^ (n - 1)) h)
 
+-- the power of the sign bit
 half : (n : ℕ) → 0 < n → 2 ^ n ≡ 2 ^ (n - 1) * 2
 half zero p = absurd (omega arith)
 half (suc k) p = let e : suc k - 1 ≡ k = omega arith in rw e (pow-suc 2 k)
 
 -- a number of n bits, n from 1 to 32
 module _ (n x : ℕ) (p : 0 < n) (l : n ≤ 32) (h : x < 2 ^ n) where
+  -- by the sign bit
   signed-by : (b : Bool) → ltb x (2 ^ (n - 1)) ≡ b → toZ w32 (extend n x) ≡ (if b then pos x else negsuc (2 ^ n - suc x))
   signed-by true e =
       let m : 2 ^ n ≤ 2 ^ 32 = pow-mono l in
@@ -48,9 +51,11 @@ module _ (n x : ℕ) (p : 0 < n) (l : n ≤ 32) (h : x < 2 ^ n) where
 
 -- a number of at most 32 bits gives a word
 module _ (n x : ℕ) (l : n ≤ 32) (h : x < 2 ^ n) where
+  -- by the sign bit
   lt-by : (b : Bool) → ltb x (2 ^ (n - 1)) ≡ b → extend n x < 2 ^ 32
   lt-by true e = let m : 2 ^ n ≤ 2 ^ 32 = pow-mono l in rw (← extend-clear n (ltb-true _ _ e)) (omega arith)
   lt-by false e = let m : 2 ^ n ≤ 2 ^ 32 = pow-mono l in rw (← extend-set n (ltb-false _ _ e)) (omega arith)
 
+  -- below 2 ^ 32
   pub extend-lt : extend n x < 2 ^ 32
   extend-lt = lt-by (ltb x (2 ^ (n - 1))) refl

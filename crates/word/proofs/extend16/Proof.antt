@@ -1,4 +1,5 @@
 -- `word::extend16` meets its contract. Assumes nothing.
+use native.Mathlib.Omega.{arith}
 use borrow.Author.Needs.{needs}
 use Rattle.word.proofs.Extension.{extend-clear, extend-set}
 use Rattle.word.proofs.extend16.Statement.{statement}
@@ -8,10 +9,10 @@ add-result : tie.Need-add-result
 add-result c = search needs
 
 returns : tie.Need-returns
-returns c = extend-clear 16 (c .if1 .taken)
+returns c = extend-clear 16 (omega arith)
 
 returns-2 : tie.Need-returns-2
-returns-2 c = extend-set 16 (c .if1 .left)
+returns-2 c = extend-set 16 (omega arith)
 
 pub extend16-spec : {M : Type 1} → statement M
 extend16-spec = tie.close (tie.spec add-result returns returns-2)

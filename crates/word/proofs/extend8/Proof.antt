@@ -1,4 +1,5 @@
 -- `word::extend8` meets its contract. Assumes nothing.
+use native.Mathlib.Omega.{arith}
 use borrow.Author.Needs.{needs}
 use Rattle.word.proofs.Extension.{extend-clear, extend-set}
 use Rattle.word.proofs.extend8.Statement.{statement}
@@ -8,10 +9,10 @@ add-result : tie.Need-add-result
 add-result c = search needs
 
 returns : tie.Need-returns
-returns c = extend-clear 8 (c .if1 .taken)
+returns c = extend-clear 8 (omega arith)
 
 returns-2 : tie.Need-returns-2
-returns-2 c = extend-set 8 (c .if1 .left)
+returns-2 c = extend-set 8 (omega arith)
 
 pub extend8-spec : {M : Type 1} → statement M
 extend8-spec = tie.close (tie.spec add-result returns returns-2)
