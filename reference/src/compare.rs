@@ -25,77 +25,69 @@ pub struct Question {
     pub past_stores: bool,
 }
 
-/// Runs both machines over a case that starts with an empty buffer.
+/// The machine of the rules says where the comparison ends; the tested one is
+/// the same, but for a planted mistake.
+struct Machines {
+    rules: Machine,
+    tested: Machine,
+    reader: Machine,
+}
+
+/// Runs the machines over a case that starts with an empty buffer.
 pub fn compare(case: &Runs, question: Question, coverage: &mut Coverage) -> Verdict {
     assert_eq!(case.record.buffer.count, 0, "the comparison starts from an empty buffer");
     let start = |make: fn(_, _, &_) -> Machine| {
         make(case.memory.clone(), case.console.clone(), &case.record)
     };
-    let mut buffered = start(Machine::buffered);
-    let mut reader = start(Machine::table_reader);
-    buffered.mistake = question.mistake;
+    let rules = start(Machine::buffered);
+    let tested = Machine { mistake: question.mistake, ..rules.clone() };
+    let mut machines = Machines { rules, tested, reader: start(Machine::table_reader) };
     let mut verdict = Verdict::Equal;
     for run in &case.runs {
-        verdict = compare_run(&mut buffered, &mut reader, run, question.past_stores);
+        verdict = machines.compare_run(run, question.past_stores);
         if verdict != Verdict::Equal {
             break;
         }
     }
-    coverage.add(&buffered.coverage);
+    coverage.add(&machines.tested.coverage);
     verdict
 }
 
-/// Compares one run. If it has the first store of demand 3's kind, the answer
-/// is compared, and everything else as it stands after that step; the reported
-/// steps then only if the run ends there.
-fn compare_run(
-    buffered: &mut Machine,
-    reader: &mut Machine,
-    run: &RunInput,
-    past_stores: bool,
-) -> Verdict {
-    let first = buffered.regs.count;
-    let answer = reader.answer(&run.keys, run.budget);
-    let before = buffered.clone();
-    let outcome = buffered.run(&run.keys, run.budget);
-    if outcome.answer != answer {
-        return Verdict::Different(format!("answers {} and {answer}", outcome.answer));
-    }
-    match buffered.held_store {
-        Some(step) if !past_stores => {
-            let steps = step - first;
-            let mut cut = before;
-            cut.run(&run.keys, steps);
-            let cut_outcome = reader.run(&run.keys, steps);
-            let ends_there = outcome.steps == steps;
-            match difference(&cut, reader) {
-                Some(text) => Verdict::Different(text),
-                None if ends_there && cut_outcome != outcome => {
-                    Verdict::Different(format!("{outcome:?} and {cut_outcome:?}"))
-                }
-                None => Verdict::EqualToStore,
-            }
-        }
-        _ => {
-            let theirs = reader.run(&run.keys, run.budget);
-            match difference(buffered, reader) {
-                Some(text) => Verdict::Different(text),
-                None if theirs != outcome => {
-                    Verdict::Different(format!("{outcome:?} and {theirs:?}"))
-                }
-                None => Verdict::Equal,
-            }
+impl Machines {
+    /// Compares one run. If it has the first store of demand 3's kind, the
+    /// answer is compared, and the rest as it stands after that step; if the
+    /// run ends there, that is the whole run with its reported steps.
+    fn compare_run(&mut self, run: &RunInput, past_stores: bool) -> Verdict {
+        let answers = [&self.tested, &self.reader].map(|one| one.answer(&run.keys, run.budget));
+        let first = self.rules.regs.count;
+        let outcome = self.rules.run(&run.keys, run.budget);
+        let store = self.rules.held_store.filter(|_| !past_stores);
+        let budget = match store {
+            Some(step) if step - first < outcome.steps => step - first,
+            _ => run.budget,
+        };
+        let outcomes = [&mut self.tested, &mut self.reader].map(|one| one.run(&run.keys, budget));
+        if answers[0] != answers[1] {
+            Verdict::Different(format!("answers {answers:?}"))
+        } else if let Some(text) = difference(&self.tested, &self.reader) {
+            Verdict::Different(text)
+        } else if outcomes[0] != outcomes[1] {
+            Verdict::Different(format!("{outcomes:?}"))
+        } else if store.is_some() {
+            Verdict::EqualToStore
+        } else {
+            Verdict::Equal
         }
     }
 }
 
 /// Registers, memory and console; the buffer is no part of the comparison.
-fn difference(buffered: &Machine, reader: &Machine) -> Option<String> {
-    if buffered.regs != reader.regs {
-        return Some(format!("registers {:?} and {:?}", buffered.regs, reader.regs));
+fn difference(tested: &Machine, reader: &Machine) -> Option<String> {
+    if tested.regs != reader.regs {
+        return Some(format!("registers {:?} and {:?}", tested.regs, reader.regs));
     }
-    if buffered.memory != reader.memory {
+    if tested.memory != reader.memory {
         return Some("memory".to_string());
     }
-    (buffered.console != reader.console).then(|| "console".to_string())
+    (tested.console != reader.console).then(|| "console".to_string())
 }

@@ -8,6 +8,7 @@ pub mod clock;
 pub mod compare;
 pub mod coverage;
 pub mod digest;
+pub mod directed;
 pub mod exec;
 pub mod expect;
 
@@ -20,6 +21,7 @@ pub mod opcodes;
 pub mod random;
 pub mod run;
 pub mod step;
+pub mod stored;
 pub mod translate;
 pub mod trap;
 pub mod types;

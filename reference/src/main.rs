@@ -1,6 +1,6 @@
 //! The commands; `README.md` describes them.
 
-use reference::case::decode::read_case;
+use reference::case::decode::{read_all, read_case};
 use reference::case::encode::encode;
 use reference::case::Case;
 use reference::compare::{compare, Question, Verdict};
@@ -10,14 +10,20 @@ use reference::line::line;
 use reference::mistake::Mistake;
 use reference::mutants::Judge;
 use reference::random::scene::{case, Purpose};
+use reference::stored::stored_set;
 use std::io::{self, BufReader, BufWriter, Read, Write};
+use std::ops::Range;
 use std::process::ExitCode;
 
 const USAGE: &str = "usage:
-  reference write-cases [--seed S] [--count N]  random cases, in FORMAT.md's bytes
+  reference write-cases [--seed S] [--first F] [--count N]
+                                                random cases, in FORMAT.md's bytes
   reference expect < cases                      what must come out of each case
   reference coverage < cases                    what the cases cover, counted
-  reference compare [--seed S] [--count N]      both machines over random runs
+  reference compare [--seed S] [--first F] [--count N]
+                                                both machines over random runs
+  reference write-stored                        the stored set, in the same bytes
+  reference mutants < cases                     which cases tell planted mistakes apart
   reference line < executable                   the run program's line";
 
 type Done = Result<(), String>;
@@ -36,13 +42,16 @@ fn main() -> ExitCode {
 fn command(words: &[String]) -> Done {
     let Some((name, options)) = words.split_first() else { return Err(USAGE.to_string()) };
     let seed = option(options, "--seed", 1)?;
+    let first = option(options, "--first", 0)?;
     let count = option(options, "--count", 1000)?;
+    let numbers = first..first.saturating_add(count);
     match name.as_str() {
-        "write-cases" => write_cases(seed, count),
+        "write-cases" => write_all(numbers.map(|number| case(seed, number, Purpose::Any))),
         "expect" => print_expected(),
         "coverage" => print_coverage(),
-        "compare" => print_comparison(seed, count),
-        "mutants" => print_mutants(seed, count),
+        "compare" => print_comparison(seed, numbers),
+        "write-stored" => write_all(stored_set().into_iter()),
+        "mutants" => print_mutants(),
         "line" => print_line(),
         _ => Err(USAGE.to_string()),
     }
@@ -58,10 +67,10 @@ fn text(error: io::Error) -> String {
     error.to_string()
 }
 
-fn write_cases(seed: u64, count: u64) -> Done {
+fn write_all(cases: impl Iterator<Item = Case>) -> Done {
     let mut output = BufWriter::new(io::stdout().lock());
-    for number in 0..count {
-        output.write_all(&encode(&case(seed, number, Purpose::Any))).map_err(text)?;
+    for case in cases {
+        output.write_all(&encode(&case)).map_err(text)?;
     }
     output.flush().map_err(text)
 }
@@ -97,10 +106,11 @@ fn print_coverage() -> Done {
     Ok(())
 }
 
-fn print_comparison(seed: u64, count: u64) -> Done {
+fn print_comparison(seed: u64, numbers: Range<u64>) -> Done {
     let mut coverage = Coverage::default();
     let mut ended = 0;
-    for number in 0..count {
+    let count = numbers.end - numbers.start;
+    for number in numbers {
         let Case::Runs(runs) = case(seed, number, Purpose::TwoMachines) else { continue };
         match compare(&runs, Question::default(), &mut coverage) {
             Verdict::Equal => {}
@@ -121,11 +131,19 @@ fn print_line() -> Done {
     Ok(())
 }
 
-fn print_mutants(seed: u64, count: u64) -> Done {
-    let cases: Vec<Case> = (0..count).map(|number| case(seed, number, Purpose::Any)).collect();
+fn print_mutants() -> Done {
+    let cases = read_all(io::stdin().lock())?;
     let judge = Judge::new(&cases);
+    let mut untold = 0;
     for mistake in Mistake::ALL {
-        println!("{:>6} {mistake:?}: {}", judge.count_telling(*mistake), mistake.text());
+        let telling = judge.telling(*mistake);
+        let first = telling.first().map_or("none".to_string(), |number| number.to_string());
+        println!("told by {:>4}, first by {first:>4}: {}", telling.len(), mistake.text());
+        untold += usize::from(telling.is_empty());
+    }
+    println!("{} mistakes, {untold} of them not told apart", Mistake::ALL.len());
+    if untold > 0 {
+        return Err("some mistakes are not told apart".to_string());
     }
     Ok(())
 }

@@ -27,8 +27,8 @@ impl<'a> Judge<'a> {
         (0..self.cases.len()).find(|number| self.tells(*number, mistake))
     }
 
-    /// How many cases tell the mistake apart.
-    pub fn count_telling(&self, mistake: Mistake) -> usize {
-        (0..self.cases.len()).filter(|number| self.tells(*number, mistake)).count()
+    /// All cases that tell the mistake apart.
+    pub fn telling(&self, mistake: Mistake) -> Vec<usize> {
+        (0..self.cases.len()).filter(|number| self.tells(*number, mistake)).collect()
     }
 }

@@ -64,7 +64,7 @@ impl Machine {
         }
         let late = self.makes(Mistake::DirectoryMarkLate);
         if !late {
-            words::put(&mut self.memory, directory_at, 4, directory | A);
+            self.mark(directory_at, A);
         }
         if directory & FRAME >= self.memory_size() {
             return Err(Trap::Fmem);
@@ -74,32 +74,42 @@ impl Machine {
         let table = words::get(&self.memory, table_at, 4);
         if !self.permits(directory, table, access, user) {
             if table & P != 0 && self.makes(Mistake::TableMarkOnFault) {
-                words::put(&mut self.memory, table_at, 4, table | A);
+                self.mark(table_at, A);
             }
             return Err(page_fault(access));
         }
         if late {
-            words::put(&mut self.memory, directory_at, 4, directory | A);
+            self.mark(directory_at, A);
         }
-        let mut marked = table | A;
-        if access == Access::Write {
-            marked |= D;
-        }
+        let marks = if access == Access::Write { A | D } else { A };
         let beyond = table & FRAME >= self.memory_size();
         if !(beyond && self.makes(Mistake::NoMarkBeforeFrameFault)) {
-            words::put(&mut self.memory, table_at, 4, marked);
+            self.mark(table_at, marks);
         }
         if beyond {
             return Err(Trap::Fmem);
         }
+        let origin = Origin { directory: directory_at, table: table_at };
+        self.keep_walked(address / PAGE, access, [directory, table | marks], origin);
+        Ok(table & FRAME)
+    }
+
+    /// Sets marks in a word of the tables. No store of demand 3's kind.
+    fn mark(&mut self, at: u32, marks: u32) {
+        let word = words::get(&self.memory, at, 4);
+        words::put(&mut self.memory, at, 4, word | marks);
+    }
+
+    /// Keeps the entry of a walk; the table word has the walk's own marks.
+    fn keep_walked(&mut self, page: u32, access: Access, words: [u32; 2], origin: Origin) {
+        let [directory, table] = words;
         self.keep(Entry {
-            page: address / PAGE,
-            frame: marked / PAGE,
-            user: self.user_right(directory, marked),
-            write: self.write_right(directory, marked, access),
-            origin: Some(Origin { directory: directory_at, table: table_at }),
+            page,
+            frame: table / PAGE,
+            user: self.user_right(directory, table),
+            write: self.write_right(directory, table, access),
+            origin: Some(origin),
         });
-        Ok(marked & FRAME)
     }
 
     /// Present; in user mode U in both words; for a write W in both words.

@@ -49,7 +49,7 @@ fn damage(rng: &mut Rng, file: &mut Vec<u8>, body: u32) {
             file[12..16].copy_from_slice(&word(start));
         }
         3 if header => {
-            let entry = rng.pick(&[1, 2, 4, body, body & !3, u32::MAX & !3, u32::MAX]);
+            let entry = rng.pick(&[1, 2, 4, body, body & !3, !3, u32::MAX]);
             file[8..12].copy_from_slice(&word(entry));
         }
         _ => file.push(rng.word() as u8),

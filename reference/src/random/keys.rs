@@ -18,7 +18,22 @@ pub fn key_list(rng: &mut Rng, count: u64) -> Vec<Key> {
         let byte = rng.pick(&[0, 13, 65, 0x7f, 0x80, 0xff]);
         list.push(Key { step, byte });
     }
+    if rng.percent(5) {
+        list.push(Key { step: rng.pick(&[1 << 32, 1 << 63, u64::MAX]).max(step), byte: 7 });
+    }
     list
+}
+
+/// Another list than the other runs have: longer, shorter, or other bytes.
+pub fn change_keys(rng: &mut Rng, list: &mut Vec<Key>) {
+    let last = list.last().map_or(0, |key| key.step);
+    match rng.below(3) {
+        0 => list.push(Key { step: last, byte: 1 }),
+        1 => {
+            list.pop();
+        }
+        _ => list.iter_mut().for_each(|key| key.byte ^= 1),
+    }
 }
 
 /// A budget that passes: 0, 1, few steps, or many.

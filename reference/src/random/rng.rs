@@ -10,10 +10,10 @@ impl Rng {
     /// The generator of one case of a list, so that each case stands alone.
     pub fn for_case(seed: u64, number: u64) -> Rng {
         let mut mixed = Rng(seed ^ number.wrapping_mul(0xd134_2543_de82_ef95));
-        Rng(mixed.next())
+        Rng(mixed.next64())
     }
 
-    pub fn next(&mut self) -> u64 {
+    pub fn next64(&mut self) -> u64 {
         self.0 = self.0.wrapping_add(0x9e37_79b9_7f4a_7c15);
         let mut mixed = self.0;
         mixed = (mixed ^ (mixed >> 30)).wrapping_mul(0xbf58_476d_1ce4_e5b9);
@@ -23,7 +23,7 @@ impl Rng {
 
     /// A number below `bound`, which is not 0.
     pub fn below(&mut self, bound: u32) -> u32 {
-        (self.next() % u64::from(bound)) as u32
+        (self.next64() % u64::from(bound)) as u32
     }
 
     /// A number from `low` to `high`, both included.
@@ -32,7 +32,7 @@ impl Rng {
     }
 
     pub fn word(&mut self) -> u32 {
-        self.next() as u32
+        self.next64() as u32
     }
 
     pub fn percent(&mut self, chance: u32) -> bool {

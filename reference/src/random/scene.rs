@@ -1,6 +1,6 @@
 //! A whole random case: memory, console, record, runs; or a file to load.
 
-use super::keys::{bad_budget, budget, key_list};
+use super::keys::{bad_budget, budget, change_keys, key_list};
 use super::program::{drill, handler, noise, story};
 use super::record::{registers, stale_buffer};
 use super::rng::Rng;
@@ -33,7 +33,7 @@ pub fn case(seed: u64, number: u64, purpose: Purpose) -> Case {
             break_something(rng, &mut runs, purpose);
         }
     }
-    trim(&mut runs);
+    trim(rng, &mut runs);
     runs.into()
 }
 
@@ -109,7 +109,11 @@ fn put_console_and_keys(rng: &mut Rng, case: &mut Runs) {
     let single_steps = rng.percent(15);
     for _ in 0..1 + rng.below(if single_steps { 24 } else { 5 }) {
         let budget = if single_steps { 1 } else { budget(rng) };
-        case.runs.push(RunInput { keys: keys.clone(), budget });
+        let mut keys = keys.clone();
+        if rng.percent(4) {
+            change_keys(rng, &mut keys);
+        }
+        case.runs.push(RunInput { keys, budget });
     }
 }
 

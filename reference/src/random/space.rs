@@ -137,6 +137,27 @@ impl Builder<'_> {
         }
     }
 
+    /// The first word leads to the table; the others there too, to a second
+    /// one, to the directory itself, or anywhere.
+    fn fill_directory(&mut self, directory: u32, table: u32) {
+        let second = self.frame();
+        if second != table && second != directory && self.rng.percent(50) {
+            self.fill_table(second, false);
+        }
+        for top in [1, 2, 1023] {
+            let frame = match self.rng.weighted(&[3, 3, 3, 1]) {
+                0 => table,
+                1 => second,
+                2 => directory,
+                _ => self.any_frame(),
+            };
+            let bits = bits(self.rng, 15);
+            self.put(directory, top, frame, bits);
+        }
+        let bits = bits(self.rng, 4);
+        self.put(directory, 0, table, bits);
+    }
+
     /// Page i leads to frame i, the aliases anywhere.
     fn fill_table(&mut self, table: u32, wide: bool) {
         for index in 0..self.frames {
@@ -161,29 +182,13 @@ impl Builder<'_> {
 /// frame.
 pub fn build(rng: &mut Rng, memory: &mut [u8]) -> Space {
     let memory_size = memory.len() as u32;
-    let frames = memory_size / PAGE;
     let wide = rng.percent(15);
-    let mut builder = Builder { rng, memory, frames, words: Vec::new() };
+    let mut builder = Builder { rng, memory, frames: memory_size / PAGE, words: Vec::new() };
     let directory = builder.frame();
     let self_mapped = builder.rng.percent(20);
     let table = if self_mapped { directory } else { builder.frame() };
-    let second = builder.frame();
     builder.fill_table(table, wide);
-    if second != table && second != directory && builder.rng.percent(50) {
-        builder.fill_table(second, false);
-    }
-    for top in [1, 2, 1023] {
-        let frame = match builder.rng.weighted(&[3, 3, 3, 1]) {
-            0 => table,
-            1 => second,
-            2 => directory,
-            _ => builder.any_frame(),
-        };
-        let bits = bits(builder.rng, 15);
-        builder.put(directory, top, frame, bits);
-    }
-    let main = bits(builder.rng, 4);
-    builder.put(directory, 0, table, main);
+    builder.fill_directory(directory, table);
     let code_frame = builder.frame();
     let stack_frame = builder.frame();
     // The program's own page mostly has its rights.
@@ -193,14 +198,13 @@ pub fn build(rng: &mut Rng, memory: &mut [u8]) -> Space {
     }
     let words = builder.words;
     let wide = wide.then_some(WIDE_FIRST * PAGE);
-    let pages = pages(memory, directory * PAGE, wide);
     Space {
         memory_size,
         pdir: directory * PAGE,
         code: code_frame * PAGE,
         stack: stack_frame * PAGE,
         code_frame,
-        pages,
+        pages: pages(memory, directory * PAGE, wide),
         table: table * PAGE,
         words,
         wide,

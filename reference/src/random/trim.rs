@@ -1,17 +1,24 @@
 //! Cutting a list of runs short: once a machine has stopped or a run was
 //! refused, the later runs show little. One is kept.
 
+use super::rng::Rng;
 use crate::case::Runs;
 use crate::machine::Machine;
-use crate::types::Stop;
+use crate::types::{Stop, MAX_BUDGET};
 
-pub fn trim(case: &mut Runs) {
+/// A run in which the machine stops may as well have the largest budget.
+pub fn trim(rng: &mut Rng, case: &mut Runs) {
     let mut machine = Machine::buffered(case.memory.clone(), case.console.clone(), &case.record);
-    let over = case.runs.iter().position(|run| {
+    for nth in 0..case.runs.len() {
+        let run = &mut case.runs[nth];
         let outcome = machine.run(&run.keys, run.budget);
-        outcome.answer != 0 || machine.regs.stop != Stop::Running
-    });
-    if let Some(last) = over {
-        case.runs.truncate(last + 2);
+        let stopped = machine.regs.stop != Stop::Running;
+        if outcome.answer == 0 && stopped && rng.percent(20) {
+            run.budget = MAX_BUDGET;
+        }
+        if outcome.answer != 0 || stopped {
+            case.runs.truncate(nth + 2);
+            return;
+        }
     }
 }

@@ -1,0 +1,55 @@
+//! The stored set: what it holds, that its expected output is this program's,
+//! and that it tells every planted mistake apart.
+
+use reference::case::decode::read_all;
+use reference::case::Case;
+use reference::coverage::Coverage;
+use reference::directed::all;
+use reference::expect::expect;
+use reference::mistake::Mistake;
+use reference::mutants::Judge;
+use std::sync::LazyLock;
+
+const BYTES: &[u8] = include_bytes!("../cases/stored.bin");
+const OUTPUT: &str = include_str!("../cases/stored.txt");
+
+static CASES: LazyLock<Vec<Case>> = LazyLock::new(|| read_all(BYTES).unwrap());
+
+#[test]
+fn the_stored_output_is_this_programs() {
+    let mut output = OUTPUT.lines();
+    for (number, case) in CASES.iter().enumerate() {
+        for line in expect(number, case, None).lines {
+            assert_eq!(Some(line.as_str()), output.next(), "case {number}");
+        }
+    }
+    assert_eq!(output.next(), None);
+}
+
+#[test]
+fn it_begins_with_all_directed_cases_and_is_small() {
+    for (stored, (name, case)) in CASES.iter().zip(all()) {
+        assert!(*stored == case, "{name} changed; write the stored set anew");
+    }
+    assert!(CASES.len() > all().len() + 20);
+    assert!(BYTES.len() + OUTPUT.len() < 300_000);
+}
+
+#[test]
+fn it_covers_every_kind() {
+    let mut coverage = Coverage::default();
+    for (number, case) in CASES.iter().enumerate() {
+        coverage.add(&expect(number, case, None).coverage);
+    }
+    let answers: Vec<u32> = (0..12).collect();
+    assert_eq!(coverage.missing(&answers), [""; 0]);
+}
+
+#[test]
+fn it_tells_every_planted_mistake_apart() {
+    assert!(Mistake::ALL.len() >= 20);
+    let judge = Judge::new(&CASES);
+    for mistake in Mistake::ALL {
+        assert!(judge.first_telling(*mistake).is_some(), "{mistake:?}");
+    }
+}

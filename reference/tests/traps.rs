@@ -1,0 +1,158 @@
+//! What must come of the directed cases on traps, stops and fetches.
+
+mod common;
+use common::after;
+use reference::types::{Registers, Stop};
+
+#[test]
+fn a_stop_with_3_on_an_interrupt_ends_waiting() {
+    let after = after("stop 3 ends waiting");
+    let given = after.given.record.regs.clone();
+    let expected =
+        Registers { waiting: false, stop: Stop::NoFrame, count: 1, keys: 1, kbchar: 65, ..given };
+    assert_eq!(*after.regs(), expected);
+    assert!(after.memory_is_unchanged());
+}
+
+#[test]
+fn a_stop_keeps_the_clocks_work() {
+    let after = after("stop 2 keeps the clock");
+    let given = after.given.record.regs.clone();
+    let expected =
+        Registers { stop: Stop::Masked, count: 1, keys: 1, kbchar: 65, timer: 3, ..given };
+    assert_eq!(*after.regs(), expected);
+}
+
+#[test]
+fn a_stop_keeps_the_faults_vadr_and_nothing_else() {
+    let masked = after("stop 2 keeps vadr");
+    let given = masked.given.record.regs.clone();
+    let expected = Registers { stop: Stop::Masked, count: 1, vadr: 0x1235, ..given };
+    assert_eq!(*masked.regs(), expected);
+    let no_frame = after("stop 3 keeps the fault's vadr");
+    let given = no_frame.given.record.regs.clone();
+    let expected = Registers { stop: Stop::NoFrame, count: 1, vadr: 0x1235, ..given };
+    assert_eq!(*no_frame.regs(), expected);
+}
+
+#[test]
+fn a_stop_leaves_user_mode_and_pc() {
+    for (name, stop) in [
+        ("stop 3 leaves the program's state", Stop::NoFrame),
+        ("stop 2 in user mode", Stop::Masked),
+    ] {
+        let after = after(name);
+        let given = after.given.record.regs.clone();
+        assert_eq!(*after.regs(), Registers { stop, count: 1, ..given });
+        assert!(after.memory_is_unchanged());
+    }
+}
+
+#[test]
+fn halt_stops_after_itself() {
+    let after = after("halt");
+    assert_eq!(after.regs().stop, Stop::Halted);
+    assert_eq!(after.regs().pc, 0x104);
+    let steps: Vec<u64> = after.outcomes.iter().map(|outcome| outcome.steps).collect();
+    assert_eq!(steps, [1, 0]);
+}
+
+#[test]
+fn the_stored_pc() {
+    let block = after("block fault's pc");
+    block.delivered(0xf00, 0, 0x104);
+    assert_eq!(block.regs().vadr, 0x1000);
+    assert_eq!((block.regs().a, block.regs().b, block.regs().c), (0x200, 0x1000, 2));
+    after("FINST's pc").delivered(0xf00, 4, 0x104);
+    after("FPRIV's pc").delivered(0xe00, 19, 0x104);
+    let trap = after("TRAP's pc");
+    trap.delivered(0xe00, 21, 0x104);
+    assert_eq!(trap.regs().usp, 0xf00);
+    after("key in user mode").delivered(0xe00, 18, 0x100);
+    after("timer in user mode").delivered(0xe00, 17, 0x100);
+}
+
+#[test]
+fn frames_are_two_words() {
+    let after_trap = after("slots of four bytes");
+    after_trap.delivered(0xf00, 5, 0x104);
+    for kept in [0xee8..0xef0, 0xef4..0xef8, 0xefc..0xf00] {
+        assert!(after_trap.machine.memory[kept].iter().all(|byte| *byte == 0xee));
+    }
+    let refused = after("second slot refused");
+    assert_eq!(refused.regs().stop, Stop::NoFrame);
+    assert_eq!((refused.regs().sp, refused.regs().pc), (8, 0x100));
+    assert!(refused.memory_is_unchanged());
+}
+
+#[test]
+fn a_frame_may_lie_over_address_0() {
+    let after = after("frame over address 0");
+    assert_eq!(after.regs().sp, 0xffff_fff8);
+    assert_eq!(after.word(0), 0x104);
+    assert_eq!(after.word(0x3ff8), 5);
+    // Both walks marked: page 0 by fetch, then write; page 0xfffff by write.
+    assert_eq!(after.word(0x2000), 0x0067);
+    assert_eq!(after.word(0x2ffc), 0x3067);
+    assert_eq!(after.entries(), [(0, 0, true, true), (0xf_ffff, 3, true, true)]);
+}
+
+#[test]
+fn returns_from_traps() {
+    for name in ["RTI with 0x37", "RTI with 16"] {
+        let after = after(name);
+        let given = after.given.record.regs.clone();
+        let expected = Registers {
+            pc: 0x220,
+            sp: 0xd00,
+            ksp: 0xf10,
+            user: true,
+            iena: true,
+            count: 1,
+            ..given
+        };
+        assert_eq!(*after.regs(), expected);
+    }
+    let unmarked = after("RTI without the mark");
+    let given = unmarked.given.record.regs.clone();
+    let expected = Registers { pc: 0x220, sp: 0xf10, iena: true, count: 1, ..given };
+    assert_eq!(*unmarked.regs(), expected);
+}
+
+#[test]
+fn a_return_reads_the_code_first() {
+    let after = after("RTI across a page's end");
+    let given = after.given.record.regs.clone();
+    let expected = Registers { stop: Stop::Masked, count: 1, vadr: 0x4000, ..given };
+    assert_eq!(*after.regs(), expected);
+    assert_eq!(after.word(0x200c), 0x3027);
+    assert_eq!(after.entries(), [(0, 0, true, false), (3, 3, true, false)]);
+}
+
+#[test]
+fn fetch_faults_store_the_fetch_address() {
+    for (name, code, pc) in [
+        ("fetch beyond memory", 0, 0x1000),
+        ("fetch from an absent directory", 7, 0x40_0000),
+        ("fetch from an absent page", 7, 0x4000),
+        ("fetch through a directory beyond", 0, 0x40_0000),
+        ("fetch from a frame beyond", 0, 0x4000),
+    ] {
+        let after = after(name);
+        after.delivered(0xf00, code, pc);
+        assert_eq!(after.regs().vadr, pc, "{name}");
+    }
+    let user = after("fetch without user right");
+    user.delivered(0xe00, 23, 0x100);
+    assert_eq!(user.regs().vadr, 0x100);
+    // The frame's own walk may read what the user may not.
+    assert_eq!(user.word(0x2000), 0x0063);
+    assert_eq!(user.entries(), [(0, 0, false, true)]);
+    assert_eq!(after("fetch through a directory beyond").word(0x1004), 0x4027);
+    assert_eq!(after("fetch from a frame beyond").word(0x2010), 0x5027);
+}
+
+#[test]
+fn pc_wraps() {
+    assert_eq!(after("fetch over the last address").regs().pc, 0);
+}
