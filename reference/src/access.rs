@@ -4,7 +4,8 @@
 use crate::coverage::Storer;
 use crate::machine::Machine;
 use crate::mistake::Mistake;
-use crate::types::{Access, Trap};
+use crate::translate::{A, D};
+use crate::types::{Access, Trap, PAGE};
 use crate::words;
 
 impl Machine {
@@ -29,6 +30,7 @@ impl Machine {
     pub fn write(&mut self, address: u32, size: u32, value: u32) -> Result<(), Trap> {
         let physical = self.reach(address, Access::Write, size)?;
         self.store(physical, size, value, Storer::Instruction);
+        self.misread_marks(address);
         Ok(())
     }
 
@@ -40,6 +42,17 @@ impl Machine {
             self.held_store.get_or_insert(self.regs.count);
         }
         words::put(&mut self.memory, physical, size, value);
+    }
+
+    /// Planted mistake only: the walk's marks, once more, after the store.
+    fn misread_marks(&mut self, address: u32) {
+        let Some(buffer) = &self.buffer else { return };
+        let at = buffer.position(address / PAGE);
+        let origin = at.and_then(|at| buffer.slots[at].origin);
+        if let (true, Some(origin)) = (self.makes(Mistake::MarksAfterStore), origin) {
+            self.mark(origin.directory, A);
+            self.mark(origin.table, A | D);
+        }
     }
 
     fn is_held_word(&self, physical: u32, size: u32) -> bool {

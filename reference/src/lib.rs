@@ -1,6 +1,8 @@
 //! An independent second program for the rules of the v9 machine: clarity
 //! over speed, no crates, nothing shared with the product.
 
+#![forbid(unsafe_code)]
+
 pub mod access;
 pub mod buffer;
 pub mod case;
@@ -22,6 +24,7 @@ pub mod random;
 pub mod run;
 pub mod step;
 pub mod stored;
+pub mod table_reader;
 pub mod translate;
 pub mod trap;
 pub mod types;

@@ -21,21 +21,8 @@ pub struct Machine {
 impl Machine {
     /// The machine with the page buffer.
     pub fn buffered(memory: Vec<u8>, console: Vec<u8>, record: &Record) -> Machine {
-        let reader = Machine::table_reader(memory, console, record);
-        Machine { buffer: Some(record.buffer.clone()), ..reader }
-    }
-
-    /// The second machine of demand 3; the record's entries are no part of it.
-    pub fn table_reader(memory: Vec<u8>, console: Vec<u8>, record: &Record) -> Machine {
-        Machine {
-            regs: record.regs.clone(),
-            buffer: None,
-            memory,
-            console,
-            mistake: None,
-            held_store: None,
-            coverage: Coverage::default(),
-        }
+        let unbuffered = Machine::table_reader(memory, console, record);
+        Machine { buffer: Some(record.buffer.clone()), ..unbuffered }
     }
 
     /// The record as a run returns it; the table reader's has no entries.

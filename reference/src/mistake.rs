@@ -54,6 +54,7 @@ mistakes! {
     IdleAlwaysWaits: "IDLE waits though iena = 0",
     // Addresses.
     BlockTranslatesFirst: "MCPY, MCMP translate a before b's byte is read",
+    MarksAfterStore: "a walk's marks come after the store",
     FaultEmptiesFull: "a faulting walk empties a full buffer",
     FaultDropsEntry: "a faulting walk drops the page's entry",
     WriteRightByWriteOnly: "a read never keeps write right though D is set",

@@ -95,7 +95,7 @@ impl Machine {
     }
 
     /// Sets marks in a word of the tables. No store of demand 3's kind.
-    fn mark(&mut self, at: u32, marks: u32) {
+    pub fn mark(&mut self, at: u32, marks: u32) {
         let word = words::get(&self.memory, at, 4);
         words::put(&mut self.memory, at, 4, word | marks);
     }
