@@ -6,4 +6,5 @@ pub mod ServedRequest
 pub mod EventLaws
 pub mod CoherentWalk
 pub mod BufferLaws
+pub mod ValidBuffer
 pub mod RequestAgrees

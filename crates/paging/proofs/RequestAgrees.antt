@@ -1,45 +1,45 @@
 -- Document 01, "Addresses" and "The table reader": from a coherent buffer, one request has the same answer and leaves the same memory in the
 -- machine with the page buffer and in the table reader, and the buffer is coherent afterwards.
-use Prim.Native.Nat.{ℕ, _*_, _/_, _%_, _<_}
+use Prim.Native.Nat.{ℕ}
 use mathlib.Core.Path.{_≡_, refl, sym}
 use mathlib.Core.Bool.{Bool, true, false, cond, _&&_, true≢false, false≢true}
-use mathlib.Core.List.{List, _∷_}
+use mathlib.Core.List.{List, _∷_, _++_}
 use mathlib.Core.Option.{Option, none, some}
-use native.Mathlib.Omega.{arith}
-use lib.ListN.{length}
 use lib.Dec.{eqb}
-use borrow.Author.Tests.{eqb-true, ltb-true, lt-ltb}
+use borrow.Author.Tests.{eqb-true}
 use Rattle.paging.specs.declared.Access.{Access}
-use Rattle.paging.specs.declared.Answer.{Answer}
 use Rattle.paging.specs.declared.Entry.{Entry}
 use Rattle.paging.specs.declared.Space.{Space}
-use Rattle.paging.specs.Event.{Words}
+use Rattle.paging.specs.Event.{Event, Words}
 use Rattle.paging.specs.Walk.{Found, fault, found, Walked, walk}
-use Rattle.paging.specs.Buffer.{serves, hit, place, entryPage, wordsPage, fits, roomIn, keepEvents, keep, afterWalk, walkEvents, entryOk, bufferOk}
+use Rattle.paging.specs.Buffer.{serves, hit, place, entryPage, wordsPage, fits, roomIn, keepEvents, keep, afterWalk, walkEvents}
 use Rattle.paging.specs.Held.{heldAfter, storesHeld}
-use Rattle.paging.specs.Translate.{Request, Outcome, pageOf, refilled, pagedBy, paged, translateBy, buffered, walkedBy, readBy, reader}
+use Rattle.paging.specs.Translate.{Request, Outcome, outcome, pageOf, refilled, pagedBy, paged, translateBy, buffered, walkedBy, readBy, reader}
 use Rattle.paging.proofs.BoolLaws.{both}
 use Rattle.paging.proofs.Coherent.{CoherentEntry, Coherent, none-held, one-more, coherent-marked}
 use Rattle.paging.proofs.ServedRequest.{WalkGives, served-walk}
 use Rattle.paging.proofs.EventLaws.{held-append, stores-append, keep-stores}
 use Rattle.paging.proofs.CoherentWalk.{FoundCoherent, walk-keeps}
-use Rattle.paging.proofs.BufferLaws.{keep-ok}
+use Rattle.paging.proofs.ValidBuffer.{Valid, Keeps, keeps-both, request-keeps}
 
--- what holds before each request: the buffer is coherent and would not be refused with 3, and the two sizes are whole
+-- what holds before each request: besides, the buffer is coherent
 pub record Sound (s : Space) (m : List ℕ) (es : List Entry) (hs : List Words) : Type 0 where
-  pub aligned : s .pdir % 4 ≡ 0
-  pub whole : length m % 4096 ≡ 0
+  pub valid : Valid s m es
   pub coherent : Coherent m (s .pdir) es hs
-  pub ok : bufferOk (length m) es ≡ true
 
--- what one request comes to in the two machines
-pub record RequestAgrees (s : Space) (m : List ℕ) (hs : List Words) (b : Outcome (List Entry) Answer) (t : Outcome (Unit {0}) Answer) : Type 0 where
+-- what requests come to in the two machines: the same answer and memory; the size of memory is kept, refusal 3 does not come of them, they store
+-- nothing, and the buffer is coherent with what is held then
+pub record RequestAgrees {A : Type 0} (s : Space) (m : List ℕ) (hs : List Words) (b : Outcome (List Entry) A) (t : Outcome (Unit {0}) A) : Type 0 where
   pub answer : b .answer ≡ t .answer
   pub mem : b .mem ≡ t .mem
-  pub size : length (b .mem) ≡ length m
-  pub coherent : Coherent (b .mem) (s .pdir) (b .buffer) (heldAfter hs (b .events))
+  pub keeps : Keeps s m (b .mem) (b .buffer)
   pub stores : storesHeld hs (b .events) ≡ false
-  pub ok : bufferOk (length m) (b .buffer) ≡ true
+  pub coherent : Coherent (b .mem) (s .pdir) (b .buffer) (heldAfter hs (b .events))
+
+-- another request may follow
+pub sound-after : {A : Type 0} {s : Space} {m : List ℕ} {hs : List Words} {b : Outcome (List Entry) A} {t : Outcome (Unit {0}) A}
+    → RequestAgrees s m hs b t → Sound s (b .mem) (b .buffer) (heldAfter hs (b .events))
+sound-after g = record { valid = g .keeps .valid; coherent = g .coherent }
 
 -- ---- an entry serves
 
@@ -85,13 +85,6 @@ unfolding roomIn keepEvents heldAfter
 keep-coherent true e h c cs = place-coherent e h c cs
 keep-coherent false e h c cs = place-coherent e h c none-held
 
--- the frame that a walk finds is in memory
-found-ok : {n : List ℕ} {pdir : ℕ} {h : Words} (e : Entry) → e .page < 1048576 → length n % 4096 ≡ 0 → CoherentEntry n pdir e h → entryOk (length n) e ≡ true
-unfolding entryOk
-found-ok {n} e p w c =
-    let l : e .frame * 4096 < length n = rw (← c .maps .frame-is) (ltb-true _ _ (c .maps .tab-inside)) in
-    rw (lt-ltb (e .page) 1048576 p, lt-ltb (e .frame) (length n / 4096) (omega arith))
-
 -- ---- a walk
 
 -- the buffer after a walk
@@ -107,13 +100,6 @@ unfolding walkEvents
 after-stores hs p es (fault c) = unfold storesHeld in refl
 after-stores hs p es (found f u w da ta) = keep-stores hs (fits p es) (record { page = p; dir = da; tab = ta })
 
--- refusal 3 does not come of a walk
-after-ok : (n : List ℕ) (pdir : ℕ) (es : List Entry) (p : ℕ) (o : Found) → p < 1048576 → length n % 4096 ≡ 0 → FoundCoherent pdir p n o
-    → bufferOk (length n) es ≡ true → bufferOk (length n) (afterWalk p es o) ≡ true
-unfolding afterWalk
-after-ok n pdir es p (fault c) pb wh ok b = b
-after-ok n pdir es p (found f u w da ta) pb wh ok b = keep-ok (length n) _ es (found-ok _ pb wh ok) b
-
 -- ---- the request
 
 module _ (s : Space) (q : Request) (m : List ℕ) (es : List Entry) (hs : List Words) (o : Sound s m es hs) where
@@ -122,32 +108,57 @@ module _ (s : Space) (q : Request) (m : List ℕ) (es : List Entry) (hs : List W
   w = walk m (s .pdir) (pageOf q) (q .kind) (q .user)
 
   -- "Paging on, no usable entry"
-  walk-agrees : RequestAgrees s m hs (refilled q es w) (walkedBy q w)
+  walk-agrees : Keeps s m (refilled q es w .mem) (refilled q es w .buffer) → RequestAgrees s m hs (refilled q es w) (walkedBy q w)
   unfolding refilled walkedBy
-  walk-agrees =
-      let k = walk-keeps m (s .pdir) (pageOf q) (q .kind) (q .user) (o .aligned) in
-      let p : pageOf q < 1048576 = omega arith in
+  walk-agrees v =
+      let k = walk-keeps m (s .pdir) (pageOf q) (q .kind) (q .user) (o .valid .aligned) in
+      let es′ = walkEvents (pageOf q) es (w .found) in
       record {
         answer = refl;
         mem = refl;
-        size = k .marks .size;
-        coherent = rw (held-append hs (w .events) (walkEvents (pageOf q) es (w .found)), k .only .held hs) (after-coherent (pageOf q) (w .found) (k .coherent) (coherent-marked (k .marks) (o .coherent)));
-        stores = rw (stores-append hs (w .events) (walkEvents (pageOf q) es (w .found)), k .only .stores hs, k .only .held hs) (after-stores hs (pageOf q) es (w .found));
-        ok = rw (← k .marks .size) (after-ok (w .mem) (s .pdir) es (pageOf q) (w .found) p (rw (k .marks .size) (o .whole)) (k .coherent) (rw (k .marks .size) (o .ok)));
+        keeps = v;
+        stores = rw (stores-append hs (w .events) es′, k .only .stores hs, k .only .held hs) (after-stores hs (pageOf q) es (w .found));
+        coherent = rw (held-append hs (w .events) es′, k .only .held hs) (after-coherent (pageOf q) (w .found) (k .coherent) (coherent-marked (k .marks) (o .coherent)));
       }
 
   -- paging on
-  paged-agrees : (f : Option ℕ) → HitGives m (s .pdir) (pageOf q) (q .kind) (q .user) f → RequestAgrees s m hs (pagedBy f (s .pdir) q m es) (walkedBy q w)
+  paged-agrees : (f : Option ℕ) → HitGives m (s .pdir) (pageOf q) (q .kind) (q .user) f → Keeps s m (pagedBy f (s .pdir) q m es .mem) (pagedBy f (s .pdir) q m es .buffer)
+      → RequestAgrees s m hs (pagedBy f (s .pdir) q m es) (walkedBy q w)
   unfolding pagedBy walkedBy heldAfter storesHeld
-  paged-agrees none g = walk-agrees
-  paged-agrees (some f) g = record { answer = sym (g .answer q); mem = sym (g .mem); size = refl; coherent = o .coherent; stores = refl; ok = o .ok }
+  paged-agrees none g v = walk-agrees v
+  paged-agrees (some f) g v = record { answer = sym (g .answer q); mem = sym (g .mem); keeps = v; stores = refl; coherent = o .coherent }
 
   -- paging on or off
-  by-paging : (on : Bool) → RequestAgrees s m hs (translateBy on (s .pdir) q m es) (readBy on (s .pdir) q m)
+  by-paging : (on : Bool) → Keeps s m (translateBy on (s .pdir) q m es .mem) (translateBy on (s .pdir) q m es .buffer)
+      → RequestAgrees s m hs (translateBy on (s .pdir) q m es) (readBy on (s .pdir) q m)
   unfolding translateBy paged readBy heldAfter storesHeld
-  by-paging true = paged-agrees (hit (pageOf q) (q .kind) (q .user) es) (hit-gives (pageOf q) (q .kind) (q .user) (o .coherent))
-  by-paging false = record { answer = refl; mem = refl; size = refl; coherent = o .coherent; stores = refl; ok = o .ok }
+  by-paging true v = paged-agrees (hit (pageOf q) (q .kind) (q .user) es) (hit-gives (pageOf q) (q .kind) (q .user) (o .coherent)) v
+  by-paging false v = record { answer = refl; mem = refl; keeps = v; stores = refl; coherent = o .coherent }
 
   -- one request in the two machines
   pub request-agrees : RequestAgrees s m hs (buffered .translate s q m es) (reader .translate s q m tt)
-  request-agrees = by-paging (s .paging)
+  request-agrees = by-paging (s .paging) (request-keeps s q m es (o .valid))
+
+-- "PDIR and SPAG, unless they fault, empty the buffer": then it is coherent with any directory
+pub emptied-coherent : (m : List ℕ) (pdir : ℕ) (es : List Entry) (hs : List Words) → Coherent m pdir (buffered .empty es) (heldAfter hs (buffered .emptyEvents))
+unfolding heldAfter
+emptied-coherent m pdir es hs = none-held
+
+-- what a rule makes of the answer
+pub agrees-as : {A C : Type 0} {s : Space} {m : List ℕ} {hs : List Words} {b : Outcome (List Entry) A} {t : Outcome (Unit {0}) A} {x y : C}
+    → RequestAgrees s m hs b t → x ≡ y
+    → RequestAgrees s m hs (outcome x (b .mem) (b .buffer) (b .events)) (outcome y (t .mem) (t .buffer) (t .events))
+agrees-as g e = record { answer = e; mem = g .mem; keeps = g .keeps; stores = g .stores; coherent = g .coherent }
+
+-- one request after another
+pub agrees-then : {A C D : Type 0} {s : Space} {m : List ℕ} {hs : List Words} {b : Outcome (List Entry) A} {t : Outcome (Unit {0}) A}
+    {b′ : Outcome (List Entry) C} {t′ : Outcome (Unit {0}) C} {x y : D} {fs : List Event}
+    → RequestAgrees s m hs b t → RequestAgrees s (b .mem) (heldAfter hs (b .events)) b′ t′ → x ≡ y
+    → RequestAgrees s m hs (outcome x (b′ .mem) (b′ .buffer) (b .events ++ b′ .events)) (outcome y (t′ .mem) (t′ .buffer) fs)
+agrees-then {hs = hs} {b = b} {b′ = b′} g h e = record {
+  answer = e;
+  mem = h .mem;
+  keeps = keeps-both (g .keeps) (h .keeps);
+  stores = rw (stores-append hs (b .events) (b′ .events), g .stores) (h .stores);
+  coherent = rw (held-append hs (b .events) (b′ .events)) (h .coherent);
+}

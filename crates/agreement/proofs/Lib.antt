@@ -1,0 +1,3 @@
+pub mod StepsAgree
+pub mod RunsAgree
+pub mod RefusalThree

@@ -1,0 +1,7 @@
+pub mod Leaves
+pub mod StepSpace
+pub mod ValidStep
+pub mod Simulation
+pub mod StepAgrees
+pub mod AcceptedRun
+pub mod StepCount
