@@ -1,3 +1,5 @@
+pub mod EqualTranscripts
 pub mod StepsAgree
 pub mod RunsAgree
 pub mod RefusalThree
+pub mod Exception

@@ -2,7 +2,7 @@
 use Prim.Native.Nat.{ℕ}
 use mathlib.Core.Path.{_≡_, refl, ap}
 use mathlib.Core.Bool.{Bool, true, false}
-use mathlib.Core.List.{List, [], _∷_}
+use mathlib.Core.List.{List, [], _∷_, map}
 use lib.ListN.{length}
 use Rattle.word.specs.Word.{if_then_else_}
 use Rattle.paging.specs.Buffer.{bufferOk}
@@ -14,7 +14,8 @@ use Rattle.rules.specs.declared.Key.{Key}
 use Rattle.rules.specs.Run.{runAnswer, isAccepted, stepsOf, lastOf, run}
 use Rattle.rules.proofs.AcceptedRun.{accepted-state}
 use Rattle.rules.proofs.StepAgrees.{withoutBuffer}
-use Rattle.agreement.specs.Agreement.{Input, transcripts, shown, Agree, started, Demand3}
+use Rattle.agreement.specs.Agreement.{Input, transcripts, Shown, shown, Agree, started, Demand3}
+use Rattle.agreement.proofs.EqualTranscripts.{storesInRuns, compared, runs-equal}
 use Rattle.agreement.proofs.StepsAgree.{Buffered, Reader, Between, Before, Claim, steps-agree}
 
 -- "it refuses a run with the same numbers": refusal 3 does not come
@@ -53,3 +54,10 @@ runs-agree (i ∷ is) s u hs e w =
 pub demand3 : Demand3
 unfolding Demand3
 demand3 start runs = runs-agree runs (started start []) (started start tt) [] refl (record { coherent = none-held; ok = empty-ok (length (start .mem)) })
+
+-- where no store of demand 3's kind is made, all that is compared is equal
+pub equal-without-stores : (start : Shown) (runs : List Input) → storesInRuns [] (transcripts buffered runs (started start [])) ≡ false
+    → map compared (transcripts buffered runs (started start [])) ≡ map compared (transcripts reader runs (started start tt))
+unfolding Demand3
+equal-without-stores start runs q =
+    runs-equal [] (transcripts buffered runs (started start [])) (transcripts reader runs (started start tt)) (demand3 start runs) q
