@@ -1,0 +1,47 @@
+-- `buffer::pack` meets its contract. Assumes nothing.
+use native.Mathlib.Omega.{arith}
+use borrow.Author.Needs.{needs}
+use Rattle.buffer.proofs.Packing.{bool-le, pack-is}
+use Rattle.buffer.proofs.pack.Statement.{statement}
+use Rattle.buffer.proofs.pack.Tie as tie
+
+mul-result : tie.Need-mul-result
+mul-result c = search needs
+
+mul-result-2 : tie.Need-mul-result-2
+mul-result-2 c = search needs
+
+cast-result : tie.Need-cast-result
+cast-result c = search needs
+
+mul-result-3 : tie.Need-mul-result-3
+mul-result-3 c = omega (arith, bool-le (c .args .user))
+
+cast-result-2 : tie.Need-cast-result-2
+cast-result-2 c = search needs
+
+add-result : tie.Need-add-result
+add-result c = omega (arith, bool-le (c .args .user), bool-le (c .args .write))
+
+add-result-2 : tie.Need-add-result-2
+add-result-2 c = omega (arith, bool-le (c .args .user), bool-le (c .args .write))
+
+add-result-3 : tie.Need-add-result-3
+add-result-3 c = omega (arith, bool-le (c .args .user), bool-le (c .args .write))
+
+returns : tie.Need-returns
+returns c = pack-is _ _ _ _ (c .pre)
+
+pub pack-spec : {M : Type 1} → statement M
+pack-spec =
+    tie.close
+    (tie.spec
+    mul-result
+    mul-result-2
+    cast-result
+    mul-result-3
+    cast-result-2
+    add-result
+    add-result-2
+    add-result-3
+    returns)

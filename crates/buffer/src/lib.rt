@@ -1,0 +1,88 @@
+// Document 01, "Addresses": the page buffer, lent as one array of numbers.
+ghost use mathlib.Core.List.{[]};
+ghost use mathlib.Core.Path.{_≡_};
+ghost use Prim.Native.Nat.{_+_, _*_, _/_, _%_, _<_};
+ghost use Rattle.paging.specs.Buffer.{serves, keep};
+ghost use Rattle.buffer.specs.Held.{entry, unpack, held, indexOf, slotHit, Buffer};
+use paging::Access;
+
+// The frame that the buffer gives for a page, or none.
+pub enum Hit {
+    Frame(u32),
+    Miss,
+}
+
+// The number of an entry.
+pub fn pack(page: u32, frame: u32, user: bool, write: bool) -> u64
+    requires { ⌜ frame < 32768 ⌝ }
+    ensures { λ r. ⌜ unpack r ≡ entry page frame user write ⌝ }
+{
+    page as u64 * 131072 + (frame as u64 * 4 + (user as u64 * 2 + write as u64))
+}
+
+// Whether the entry of a number serves an access.
+pub fn serves(e: u64, kind: Access, user: bool) -> bool
+    ensures { λ r. ⌜ r ≡ serves (unpack e) kind user ⌝ }
+{
+    let write = walk::writes(kind);
+    (!user | (e / 2 % 2 == 1)) & (!write | (e / 1 % 2 == 1))
+}
+
+// What one slot gives for a page: its frame, if its entry is counted, is of the page, and serves the access.
+pub fn slot(tlb: &[u64], i: usize, page: u64, kind: Access, user: bool) -> Hit
+    requires { ⌜ Buffer (now tlb) ⌝ }
+    ensures { λ r. ⌜ r ≡ slotHit (now (tlb .entry)) i page kind user ⌝ }
+{
+    if i >= tlb[64] as usize {
+        return Hit::Miss;
+    }
+    let e = tlb[i];
+    let ok = (e / 131072 == page) & serves(e, kind, user);
+    if ok {
+        Hit::Frame((e / 4 % 32768) as u32)
+    } else {
+        Hit::Miss
+    }
+}
+
+// Where the entry of a page stands, or the count of entries.
+pub fn lookup(tlb: &[u64], page: u64) -> usize
+    requires { ⌜ Buffer (now tlb) ⌝ }
+    ensures { λ r. ⌜ r ≡ indexOf page (held (now (tlb .entry))) ⌝ }
+{
+    let n = tlb[64] as usize;
+    let mut i = 0;
+    while i < n {
+        if tlb[i] / 131072 == page {
+            return i;
+        }
+        i += 1;
+    }
+    i
+}
+
+// Keeps an entry: in the place of the same page's, or after the others, or alone where there is no more room.
+pub fn keep(tlb: &mut [u64], e: u64)
+    requires { ⌜ Buffer (now tlb) ⌝ }
+    ensures { λ _. ⌜ (held (now (tlb .exit)) ≡ keep (unpack e) (held (now (tlb .entry)))) × Buffer (now (tlb .exit)) ⌝ }
+{
+    let i = lookup(tlb, e / 131072);
+    let n = tlb[64] as usize;
+    if i < n {
+        tlb[i] = e;
+    } else if n == 64 {
+        tlb[0] = e;
+        tlb[64] = 1;
+    } else {
+        tlb[n] = e;
+        tlb[64] = (n + 1) as u64;
+    }
+}
+
+// Empties the buffer.
+pub fn empty(tlb: &mut [u64])
+    requires { ⌜ Buffer (now tlb) ⌝ }
+    ensures { λ _. ⌜ (held (now (tlb .exit)) ≡ []) × Buffer (now (tlb .exit)) ⌝ }
+{
+    tlb[64] = 0;
+}

@@ -1,0 +1,118 @@
+-- What each way through the code of translation gives: one law a return.
+use Prim.Native.Nat.{ℕ, _+_, _*_, _/_, _%_, _≤_, _<_}
+use native.Mathlib.Omega.{arith}
+use mathlib.Core.Bool.{Bool, true, false}
+use mathlib.Core.Option.{none, some}
+use mathlib.Core.Path.{_≡_, refl, sym, ap, _∙_}
+use mathlib.Core.List.{List}
+use lib.ListN.{length}
+use borrow.Author.Tests.{lt-ltb, le-ltb}
+use Rattle.word.specs.Word.{cut}
+use Rattle.memory.specs.declared.Size.{Size}
+use Rattle.memory.specs.Memory.{bytes}
+use Rattle.paging.specs.declared.Access.{Access}
+use Rattle.paging.specs.declared.Entry.{Entry}
+use Rattle.paging.specs.declared.Answer.{Answer}
+use Rattle.paging.specs.declared.Answer.the-variants.{At}
+use Rattle.paging.specs.Walk.{Found, fault, found, walk}
+use Rattle.paging.specs.Buffer.{hit, keep, afterWalk}
+use Rattle.paging.specs.Translate.{Request, inFrame, denied, direct, answerOf, refilled, pagedBy, paged, translateBy}
+use Rattle.walk.specs.declared.PageWalk.{PageWalk}
+use Rattle.walk.specs.declared.PageWalk.the-variants.{Mapped, Faulted}
+use Rattle.walk.specs.Found.{Walked, walked, foundBy, walkedBy}
+use Rattle.walk.proofs.Bounds.{FrameIn, frame-in}
+use Rattle.buffer.specs.declared.Hit.{Hit}
+use Rattle.buffer.specs.declared.Hit.the-variants.{Frame, Miss}
+use Rattle.buffer.specs.Held.{entry, unpack, held, indexOf, slotHit, Buffer}
+use Rattle.buffer.proofs.Hits.{slot-frame, slot-miss}
+use Rattle.mmu.specs.Good.{Good}
+use Rattle.mmu.specs.State.{state, seen, Refills, Translates}
+use Rattle.mmu.proofs.Laws.{translated}
+
+-- the page of a 32-bit address
+page-is : (a : ℕ) → a < 4294967296 → a / 4096 % 1048576 ≡ a / 4096
+page-is a h = omega arith
+
+-- ---- a walk's answer and entry, by what the code found
+
+abbrev answerFor : Request → PageWalk → Answer
+answerFor q (Mapped f u w) = inFrame f q
+answerFor q (Faulted c) = denied c q
+
+abbrev keptFor : ℕ → List Entry → PageWalk → List Entry
+keptFor p es (Mapped f u w) = keep (entry p f u w) es
+keptFor p es (Faulted c) = es
+
+answer-found : (q : Request) (r : Found) → answerFor q (foundBy r) ≡ answerOf q r
+unfolding foundBy answerOf
+answer-found q (fault c) = refl
+answer-found q (found f u w da ta) = refl
+
+kept-found : (p : ℕ) (es : List Entry) (r : Found) → keptFor p es (foundBy r) ≡ afterWalk p es r
+unfolding foundBy afterWalk
+kept-found p es (fault c) = refl
+kept-found p es (found f u w da ta) = refl
+
+frame-found : (n : ℕ) (r : Found) {f : ℕ} {u w : Bool} → foundBy r ≡ Mapped f u w → FrameIn n r → f < n / 4096
+unfolding foundBy FrameIn
+frame-found n (fault c) e h = absurd (let z : _≡_ {A = ℕ} 0 1 = cc in omega arith)
+frame-found n (found f′ u′ w′ da ta) {f} e h = let q : f′ ≡ f = cc in rw (← q) h
+
+-- a frame that a walk found has a number of fifteen bits
+pub frame-small : (m : List ℕ) (pdir page : ℕ) (k : Access) (user : Bool) {l m′ : List ℕ} {r : PageWalk} {f : ℕ} {u w : Bool}
+    → Good (length m) pdir l → walked r m′ ≡ walkedBy (walk m pdir page k user) → r ≡ Mapped f u w → f < 32768
+unfolding walkedBy
+frame-small m pdir page k user {l} {m′} {r} {f} g p e =
+    let i = frame-in m pdir page k user (g .directory .whole) in
+    let h : f < length m / 4096 = frame-found (length m) _ (ap (λ (x : Walked). x .answer) (sym p) ∙ e) i in
+    omega (arith, g .directory .small)
+
+module _ (pdir : ℕ) (q : Request) (m l : List ℕ) (g : Good (length m) pdir l) (small : q .addr < 4294967296)
+    {r : PageWalk} {m′ : List ℕ} (p : walked r m′ ≡ walkedBy (walk m pdir (q .addr / 4096) (q .kind) (q .user))) where
+  refill-by : state (answerFor q r) m′ (keptFor (q .addr / 4096) (held l) r) ≡ seen (pagedBy none pdir q m (held l))
+  unfolding pagedBy refilled walkedBy
+  refill-by =
+      let w = walk m pdir (q .addr / 4096) (q .kind) (q .user) in
+      let f : r ≡ foundBy (w .found) = ap (λ (x : Walked). x .answer) p in
+      let e : m′ ≡ w .mem = ap (λ (x : Walked). x .mem) p in
+      rw (page-is (q .addr) small, f, e, answer-found q (w .found), kept-found (q .addr / 4096) (held l) (w .found))
+
+  pub refill-mapped : (e : ℕ) {f : ℕ} {u w : Bool} {at : ℕ} {l′ : List ℕ} → r ≡ Mapped f u w → unpack e ≡ entry (q .addr / 4096) f u w
+      → (held l′ ≡ keep (unpack e) (held l)) × Buffer l′ → at ≡ f * 4096 + cut (q .size) (q .addr) % 4096 → Refills pdir q m l (At at) m′ l′
+  refill-mapped e d k h a = record { same = rw (h .0, k, a) (rw d at refill-by); buffer = h .1 }
+
+  pub refill-faulted : {c : ℕ} → r ≡ Faulted c → Refills pdir q m l (denied c q) m′ l
+  refill-faulted e = record { same = rw e at refill-by; buffer = g .buffer }
+
+-- ---- a hit, and a miss
+
+module _ {paging : Bool} (pdir : ℕ) (q : Request) (m l : List ℕ) (g : Good (length m) pdir l) where
+  module _ (small : q .addr < 4294967296) (on : paging ≡ true) (i : ℕ) {h : Hit} (p : h ≡ slotHit l i (q .addr / 4096) (q .kind) (q .user)) where
+    pub translate-hit : {f at : ℕ} → h ≡ Frame f → at ≡ f * 4096 + cut (q .size) (q .addr) % 4096 → Translates paging pdir q m l (At at) m l
+    unfolding translateBy paged pagedBy
+    translate-hit {f} e a =
+        let s : hit (q .addr / 4096) (q .kind) (q .user) (held l) ≡ some f =
+        slot-frame l i (q .addr / 4096) (q .kind) (q .user) (length m) (g .buffer) (g .entries) (sym p ∙ e) in
+        record { same = rw (on, page-is (q .addr) small, s, a); good = g }
+
+    pub translate-miss : {a : Answer} {m′ l′ : List ℕ} → h ≡ Miss → i ≡ indexOf (q .addr / 4096) (held l) → Refills pdir q m l a m′ l′ → Translates paging pdir q m l a m′ l′
+    unfolding translateBy paged
+    translate-miss e j t =
+        let s : hit (q .addr / 4096) (q .kind) (q .user) (held l) ≡ none =
+        slot-miss l i (q .addr / 4096) (q .kind) (q .user) (length m) (g .buffer) (g .entries) j (sym p ∙ e) in
+        translated g paging q (rw (on, page-is (q .addr) small, s) (t .same)) (t .buffer)
+
+  -- ---- paging off
+
+  pub translate-at : {at : ℕ} → paging ≡ false → q .addr < length m → at ≡ cut (q .size) (q .addr) → Translates paging pdir q m l (At at) m l
+  unfolding translateBy direct
+  translate-at off h e = record { same = rw (off, lt-ltb _ _ h, e); good = g }
+
+  pub translate-beyond : paging ≡ false → length m ≤ q .addr → Translates paging pdir q m l (denied 0 q) m l
+  unfolding translateBy direct
+  translate-beyond off h = record { same = rw (off, le-ltb _ _ h); good = g }
+
+-- ---- an aligned address
+
+pub aligned : (a : ℕ) {s s′ : Size} (r : ℕ) → s ≡ s′ → r ≡ cut (bytes s′) a → r ≡ cut (bytes s) a
+aligned a r e h = rw e h

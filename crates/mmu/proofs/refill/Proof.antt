@@ -1,0 +1,64 @@
+-- `mmu::refill` meets its contract. Assumes nothing.
+use native.Mathlib.Omega.{arith}
+use borrow.Author.Needs.{needs}
+use Rattle.mmu.proofs.Ways.{frame-small, refill-mapped, refill-faulted}
+use Rattle.mmu.proofs.refill.Statement.{statement}
+use Rattle.mmu.proofs.refill.Tie as tie
+
+walk-requires : tie.Need-walk-requires
+walk-requires c κs = search needs
+
+enum-known-found : tie.Need-enum-known-found
+enum-known-found c = search needs
+
+pack-requires : tie.Need-pack-requires
+pack-requires c κs =
+    frame-small _ _ _ _ _ (c .before .before .before .before .before .before .before .before .before .before .pre)
+    (c .before .before .before .before .before .before .walk .ensures) (c .before .before .found .given .1)
+
+keep-requires : tie.Need-keep-requires
+keep-requires c κs = search needs
+
+in-frame-requires : tie.Need-in-frame-requires
+in-frame-requires c κs = search needs
+
+enum-known-found-2 : tie.Need-enum-known-found-2
+enum-known-found-2 c = search needs
+
+same-length : tie.Need-same-length
+same-length c = search needs
+
+same-length-2 : tie.Need-same-length-2
+same-length-2 c = search needs
+
+returns : tie.Need-returns
+returns c =
+    refill-mapped _ _ _ _
+    (c .before .before .before .before .before .before .before .before .before .before .before .before .before .before .before .pre)
+    (omega arith) (c .before .before .before .before .before .before .before .before .before .before .before .walk .ensures)
+    (c .before .before .before .before .pack .result) (c .before .before .before .before .before .before .before .found .given .1)
+    (c .before .before .before .before .pack .ensures) (c .before .before .before .keep .ensures) (c .in-frame .ensures)
+
+same-length-3 : tie.Need-same-length-3
+same-length-3 c = search needs
+
+returns-2 : tie.Need-returns-2
+returns-2 c =
+    refill-faulted _ _ _ _ (c .before .before .before .before .before .before .before .before .before .pre) (omega arith)
+    (c .before .before .before .before .before .walk .ensures) (c .before .found2 .given .1)
+
+pub refill-spec : {M : Type 1} → statement M
+refill-spec =
+    tie.close
+    (tie.spec
+    walk-requires
+    enum-known-found
+    pack-requires
+    keep-requires
+    in-frame-requires
+    enum-known-found-2
+    same-length
+    same-length-2
+    returns
+    same-length-3
+    returns-2)

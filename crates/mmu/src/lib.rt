@@ -1,0 +1,134 @@
+// Document 01, "Addresses": translation of an address, by a hint, by the page buffer or by a page table walk.
+ghost use mathlib.Core.Path.{_≡_};
+ghost use Prim.Native.Nat.{_+_, _*_, _/_, _%_, _<_};
+ghost use lib.ListN.{length};
+ghost use Rattle.word.specs.Word.{cut};
+ghost use Rattle.memory.specs.Memory.{bytes};
+ghost use Rattle.mmu.specs.Good.{Good};
+ghost use Rattle.mmu.specs.State.{request, Refills, Translates};
+use buffer::Hit;
+use memory::Size;
+use paging::Access;
+use paging::Answer;
+use paging::Fault;
+use walk::PageWalk;
+
+// An address with its low bits dropped to the natural size.
+fn align(addr: u32, size: Size) -> u32
+    ensures { λ r. ⌜ r ≡ cut (bytes size) addr ⌝ }
+{
+    match size {
+        Size::Word => addr / 4 * 4,
+        Size::Half => addr / 2 * 2,
+        Size::Byte => addr,
+    }
+}
+
+// The address in a frame.
+fn in_frame(frame: u32, addr: u32, size: Size) -> usize
+    ensures { λ r. ⌜ r ≡ frame * 4096 + cut (bytes size) addr % 4096 ⌝ }
+{
+    frame as usize * 4096 + (align(addr, size) % 4096) as usize
+}
+
+// A page table walk, whose entry is kept.
+fn refill(
+    mem: &mut [u8],
+    tlb: &mut [u64],
+    pdir: u32,
+    addr: u32,
+    size: Size,
+    kind: Access,
+    user: bool,
+) -> Answer
+    requires { ⌜ Good (length (now mem)) pdir (now tlb) ⌝ }
+    ensures { λ r. ⌜ Refills pdir (request kind size addr user) (now (mem .entry)) (now (tlb .entry)) r (now (mem .exit)) (now (tlb .exit)) ⌝ }
+{
+    let page = addr / 4096;
+    let found = walk::walk(mem, pdir, page, kind, user);
+    match found {
+        PageWalk::Mapped {
+            frame,
+            user: u,
+            write: w,
+        } => {
+            buffer::keep(tlb, buffer::pack(page, frame, u, w));
+            Answer::At(in_frame(frame, addr, size))
+        }
+        PageWalk::Faulted(code) => Answer::Denied(Fault {
+            code,
+            address: addr,
+        }),
+    }
+}
+
+// Translation without the hint: paging off, then a search of the buffer, then a walk. The hint learns where the page's entry stands.
+fn translate_slow(
+    mem: &mut [u8],
+    tlb: &mut [u64],
+    hint: &mut [u8; 256],
+    paging: bool,
+    pdir: u32,
+    addr: u32,
+    size: Size,
+    kind: Access,
+    user: bool,
+) -> Answer
+    requires { ⌜ Good (length (now mem)) pdir (now tlb) ⌝ }
+    ensures { λ r. ⌜ Translates paging pdir (request kind size addr user) (now (mem .entry)) (now (tlb .entry)) r (now (mem .exit)) (now (tlb .exit)) ⌝ }
+{
+    if !paging {
+        if (addr as usize) < mem.len() {
+            return Answer::At(align(addr, size) as usize);
+        }
+        return Answer::Denied(Fault {
+            code: walk::FMEM,
+            address: addr,
+        });
+    }
+    let page = addr / 4096;
+    let i = buffer::lookup(tlb, page as u64);
+    hint[(page % 256) as usize] = (i % 256) as u8;
+    let hit = buffer::slot(tlb, i, page as u64, kind, user);
+    let Hit::Frame(frame) = hit else {
+        return refill(mem, tlb, pdir, addr, size, kind, user);
+    };
+    Answer::At(in_frame(frame, addr, size))
+}
+
+// Where an access lies. The hint says in which slot a page's entry may stand: it is checked on use, and may hold anything. Compilers inline
+// this function, and leave the slow one out of line as it is called twice.
+pub fn translate(
+    mem: &mut [u8],
+    tlb: &mut [u64],
+    hint: &mut [u8; 256],
+    paging: bool,
+    pdir: u32,
+    addr: u32,
+    size: Size,
+    kind: Access,
+    user: bool,
+) -> Answer
+    requires { ⌜ Good (length (now mem)) pdir (now tlb) ⌝ }
+    ensures { λ r. ⌜ Translates paging pdir (request kind size addr user) (now (mem .entry)) (now (tlb .entry)) r (now (mem .exit)) (now (tlb .exit)) ⌝ }
+{
+    if paging {
+        let page = addr / 4096;
+        let i = wide(hint[(page % 256) as usize]);
+        let hit = buffer::slot(tlb, i, page as u64, kind, user);
+        let Hit::Frame(frame) = hit else {
+            return translate_slow(mem, tlb, hint, paging, pdir, addr, size, kind, user);
+        };
+        return Answer::At(in_frame(frame, addr, size));
+    }
+    if (addr as usize) < mem.len() {
+        return Answer::At(align(addr, size) as usize);
+    }
+    translate_slow(mem, tlb, hint, paging, pdir, addr, size, kind, user)
+}
+
+fn wide(x: u8) -> usize
+    ensures { λ r. ⌜ r ≡ x ⌝ }
+{
+    x as usize
+}

@@ -1,0 +1,31 @@
+-- `walk::page_fault` meets its contract. Assumes nothing.
+use mathlib.Core.Path.{sym, ap}
+use borrow.Author.Needs.{needs}
+use Rattle.paging.specs.TrapCode.{pageFault}
+use Rattle.walk.proofs.page_fault.Statement.{statement}
+use Rattle.walk.proofs.page_fault.Tie as tie
+
+enum-told : tie.Need-enum-told
+enum-told c = search needs
+
+enum-told-2 : tie.Need-enum-told-2
+enum-told-2 c = search needs
+
+enum-told-3 : tie.Need-enum-told-3
+enum-told-3 c = search needs
+
+returns : tie.Need-returns
+unfolding pageFault
+returns c = sym (ap pageFault (c .enum-told .given .1))
+
+returns-2 : tie.Need-returns-2
+unfolding pageFault
+returns-2 c = sym (ap pageFault (c .enum-told2 .given .1))
+
+returns-3 : tie.Need-returns-3
+unfolding pageFault
+returns-3 c = sym (ap pageFault (c .enum-told3 .given .1))
+
+pub page-fault-spec : {M : Type 1} → statement M
+page-fault-spec =
+    tie.close (tie.spec enum-told enum-told-2 enum-told-3 returns returns-2 returns-3)

@@ -1,0 +1,43 @@
+-- Document 01, "Addresses": what the code of the page table walk answers, against the rules' finding.
+use Prim.Native.Nat.{ℕ}
+use mathlib.Core.Bool.{Bool}
+use mathlib.Core.Path.{_≡_}
+use mathlib.Core.List.{List}
+use lib.ListN.{length}
+use lib.Dec.{ltb}
+use Rattle.word.specs.Word.{cut}
+use Rattle.memory.specs.Memory.{loadN}
+use Rattle.paging.specs.declared.Access.{Access}
+use Rattle.paging.specs.Event.{Event}
+use Rattle.paging.specs.Walk as Walk
+use Rattle.paging.specs.Walk.{Found, fault, found, allows, walkFrame, walkTable}
+use Rattle.walk.specs.declared.PageWalk.{PageWalk}
+use Rattle.walk.specs.declared.PageWalk.the-variants.{Mapped, Faulted}
+
+-- a finding without the addresses of the words read
+unfoldable pub foundBy : Found → PageWalk
+foundBy (fault c) = Faulted c
+foundBy (found f u w da ta) = Mapped f u w
+
+-- a finding with the memory after it
+pub record Walked : Type 0 where
+  pub answer : PageWalk
+  pub mem : List ℕ
+
+abbrev pub walked : PageWalk → List ℕ → Walked
+walked r m = record { answer = r; mem = m }
+
+-- a walk of the rules, without its events
+unfoldable pub walkedBy : Walk.Walked → Walked
+unfolding foundBy
+walkedBy w = walked (foundBy (w .found)) (w .mem)
+
+-- the walk from the marked table word at `at` on, and from the table word at `at` on, give what the rules say, whichever events came before
+-- and wherever the directory word is
+abbrev pub FrameWalk : (dir table at : ℕ) → List ℕ → PageWalk → Type 0
+FrameWalk dir table at m r =
+    (es : List Event) (da : ℕ) → walked r m ≡ walkedBy (walkFrame (ltb (cut 4096 table) (length m)) es m dir table da at)
+
+abbrev pub TableWalk : (dir at : ℕ) → Access → Bool → List ℕ → PageWalk → List ℕ → Type 0
+TableWalk dir at k user m r m′ =
+    (es : List Event) (da : ℕ) → walked r m′ ≡ walkedBy (walkTable (allows dir (loadN 4 m at) k user) es m dir (loadN 4 m at) da at k)
