@@ -1,0 +1,20 @@
+-- `clock::keyed` meets its contract. Assumes nothing.
+use native.Mathlib.Omega.{arith}
+use borrow.Author.Needs.{needs}
+use Rattle.clock.proofs.keyed.Statement.{statement}
+use Rattle.clock.proofs.keyed.Tie as tie
+
+cast-n : tie.Need-cast-n
+cast-n c = search needs
+
+add-n : tie.Need-add-n
+add-n c = omega (arith, c .before .before .before .pre .fits (c .before .before .if1 .taken))
+
+returns : tie.Need-returns
+returns c = rw (c .before .before .if1 .taken)
+
+returns-2 : tie.Need-returns-2
+returns-2 c = rw (c .if1 .left)
+
+pub keyed-spec : {M : Type 1} → statement M
+keyed-spec = tie.close (tie.spec cast-n add-n returns returns-2)
