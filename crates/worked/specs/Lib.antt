@@ -1,0 +1,13 @@
+pub mod Opened
+pub mod Start
+pub mod Line
+pub mod Edge
+pub mod Worked
+pub mod Stops
+pub mod Traps
+pub mod Decisions
+pub mod Privileged
+pub mod Pages
+pub mod Entries
+pub mod Loading
+pub mod Refusals
