@@ -12,6 +12,17 @@ use Rattle.decode.proofs.opcode.Tie as tie
 abbrev illegal : List ℕ
 illegal = 0x25 ∷ 0x3d ∷ 0x3f ∷ 0x7b ∷ 0x7d ∷ 0x80 ∷ 0x83 ∷ 0x85 ∷ 0x87 ∷ 0x89 ∷ 0x8b ∷ 0x8e ∷ 0x9f ∷ 0xa2 ∷ []
 
+-- the last arm, at its single values
+illegal-singles : tie.Need-returns-138
+unfolding opcodeOf table
+illegal-singles c =
+    agree (λ _. Illegal) (λ x. opcodeOf x (c .before .args .imm) (c .before .args .field)) illegal (c .before .args .op) refl (c .match .keys138)
+
+-- the last arm, at its ranges: what no arm has as a single value
+illegal-ranges : tie.Need-returns-139
+unfolding opcodeOf table
+illegal-ranges c = sym (unlisted (table (c .before .args .imm) (c .before .args .field)) (c .before .args .op) (c .match .rest .0))
+
 pub opcode-spec : {M : Type 1} → statement M
 unfolding opcodeOf table
 opcode-spec =
@@ -154,5 +165,5 @@ opcode-spec =
     (λ c. rw (c .match .keys135))
     (λ c. rw (c .match .keys136))
     (λ c. rw (c .match .keys137))
-    (λ c. agree (λ _. Illegal) (λ x. opcodeOf x (c .before .args .imm) (c .before .args .field)) illegal (c .before .args .op) refl (c .match .keys138))
-    (λ c. sym (unlisted (table (c .before .args .imm) (c .before .args .field)) (c .before .args .op) (c .match .rest .0))))
+    illegal-singles
+    illegal-ranges)
