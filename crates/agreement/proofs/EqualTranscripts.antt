@@ -1,16 +1,14 @@
 -- What demand 3 claims where no store of its kind is made: all that is compared of every run is equal in both machines.
 use Prim.Native.Nat.{ℕ}
 use mathlib.Core.Path.{_≡_, refl}
-use mathlib.Core.Bool.{Bool, true, false, _||_}
+use mathlib.Core.Bool.{Bool, false, _||_}
 use mathlib.Core.List.{List, [], _∷_, map}
-use Rattle.word.specs.Word.{if_then_else_}
-use Rattle.paging.specs.declared.Entry.{Entry}
 use Rattle.paging.specs.Event.{Words}
 use Rattle.paging.specs.Held.{heldAfter, storesHeld}
 use Rattle.paging.proofs.BoolLaws.{neither}
 use Rattle.rules.specs.declared.RunAnswer.{RunAnswer}
-use Rattle.rules.specs.Step.{State, Stepped}
-use Rattle.agreement.specs.Agreement.{Transcript, Shown, shown, IfLast, AgreeSteps, Agree}
+use Rattle.rules.specs.Step.{Stepped}
+use Rattle.agreement.specs.Agreement.{Transcript, Shown, shown, AgreeSteps, Agree}
 
 -- what is held after some steps, and whether one of them makes a store of demand 3's kind
 abbrev pub heldThrough : {B : Type 0} → List Words → List (Stepped B) → List Words

@@ -1,5 +1,6 @@
 pub mod EqualTranscripts
 pub mod StepsAgree
 pub mod RunsAgree
+pub mod SoundRun
 pub mod RefusalThree
 pub mod Exception

@@ -14,9 +14,10 @@ use Rattle.rules.specs.declared.Key.{Key}
 use Rattle.rules.specs.Run.{runAnswer, isAccepted, stepsOf, lastOf, run}
 use Rattle.rules.proofs.AcceptedRun.{accepted-state}
 use Rattle.rules.proofs.StepAgrees.{withoutBuffer}
+use Rattle.rules.proofs.SoundStep.{SoundState}
 use Rattle.agreement.specs.Agreement.{Input, transcripts, Shown, shown, Agree, started, Demand3}
 use Rattle.agreement.proofs.EqualTranscripts.{storesInRuns, compared, runs-equal}
-use Rattle.agreement.proofs.StepsAgree.{Buffered, Reader, Between, Before, Claim, steps-agree}
+use Rattle.agreement.proofs.StepsAgree.{Buffered, Reader, Between, Claim, steps-agree}
 
 -- "it refuses a run with the same numbers": refusal 3 does not come
 same-answer : (ks : List Key) (budget : ℕ) (s : Buffered) → bufferOk (length (s .mem)) (s .buffer) ≡ true
@@ -25,13 +26,13 @@ unfolding runAnswer
 same-answer ks budget s ok = rw ok
 
 -- an accepted run may step
-accepted-before : (ks : List Key) (budget : ℕ) (s : Buffered) (hs : List Words) → Between s hs → isAccepted (runAnswer buffered ks budget s) ≡ true → Before s hs
-accepted-before ks budget s hs w e =
+accepted-sound : (ks : List Key) (budget : ℕ) (s : Buffered) (hs : List Words) → Between s hs → isAccepted (runAnswer buffered ks budget s) ≡ true → SoundState s hs
+accepted-sound ks budget s hs w e =
     let a = accepted-state buffered ks budget s e in
     record { valid = record { aligned = a .aligned; whole = a .whole; ok = w .ok }; coherent = w .coherent }
 
 -- the steps of a run: a refused one makes none
-run-agrees : {Rest : List Words → Type 0} {E : Type 0} (ks : List Key) (budget : ℕ) (s : Buffered) (hs : List Words) → Between s hs → (a : Bool) → (a ≡ true → Before s hs)
+run-agrees : {Rest : List Words → Type 0} {E : Type 0} (ks : List Key) (budget : ℕ) (s : Buffered) (hs : List Words) → Between s hs → (a : Bool) → (a ≡ true → SoundState s hs)
     → Claim ks (if a then budget else 0) s (withoutBuffer s) hs Rest E
 unfolding stepsOf lastOf
 run-agrees ks budget s hs w true k = steps-agree ks budget s (withoutBuffer s) hs refl (k refl)
@@ -46,7 +47,7 @@ runs-agree (i ∷ is) s u hs e w =
     let a = same-answer (i .keys) (i .budget) s (w .ok) in
     rw (← e, ← a) (
       refl,
-      run-agrees (i .keys) (i .budget) s hs w (isAccepted (runAnswer buffered (i .keys) (i .budget) s)) (accepted-before (i .keys) (i .budget) s hs w)
+      run-agrees (i .keys) (i .budget) s hs w (isAccepted (runAnswer buffered (i .keys) (i .budget) s)) (accepted-sound (i .keys) (i .budget) s hs w)
           (λ hs′ l q w′. (l, (ap shown q, runs-agree is _ _ hs′ q w′))) (λ l. l),
     )
 

@@ -11,13 +11,12 @@ use Rattle.paging.specs.Event.{Words}
 use Rattle.paging.specs.Held.{heldAfter, storesHeld}
 use Rattle.paging.specs.Translate.{buffered, reader}
 use Rattle.paging.proofs.Coherent.{Coherent}
-use Rattle.paging.proofs.RequestAgrees.{Sound}
 use Rattle.rules.specs.declared.Key.{Key}
 use Rattle.rules.specs.Record.{isRunning}
 use Rattle.rules.specs.Step.{State, Stepped, step}
 use Rattle.rules.specs.Run.{stepsOf, lastOf}
-use Rattle.rules.proofs.ValidStep.{step-keeps}
 use Rattle.rules.proofs.StepAgrees.{withoutBuffer, StepAgrees, step-agrees}
+use Rattle.rules.proofs.SoundStep.{SoundState, step-sound}
 use Rattle.agreement.specs.Agreement.{shown, IfLast, AgreeSteps}
 
 -- the two machines
@@ -32,12 +31,8 @@ pub record Between (s : Buffered) (hs : List Words) : Type 0 where
   pub coherent : Coherent (s .mem) (s .cpu .space .pdir) (s .buffer) hs
   pub ok : bufferOk (length (s .mem)) (s .buffer) ≡ true
 
--- and before each step of a run
-abbrev pub Before : Buffered → List Words → Type 0
-Before s hs = Sound (s .cpu .space) (s .mem) (s .buffer) hs
-
 -- a run may end before any step
-pub between : {s : Buffered} {hs : List Words} → Before s hs → Between s hs
+pub between : {s : Buffered} {hs : List Words} → SoundState s hs → Between s hs
 between o = record { coherent = o .coherent; ok = o .valid .ok }
 
 -- what follows from the end of a run that made no store of demand 3's kind: as many steps, the same state, and the buffer is coherent
@@ -89,7 +84,7 @@ module _ (ks : List Key) where
       → AgreeSteps hs (bufferSteps n s) (readerSteps n u) Rest E
 
   -- n steps, or as many as are made before the machine stops
-  pub steps-agree : {Rest : List Words → Type 0} {E : Type 0} (n : ℕ) (s : Buffered) (u : Reader) (hs : List Words) → withoutBuffer s ≡ u → Before s hs
+  pub steps-agree : {Rest : List Words → Type 0} {E : Type 0} (n : ℕ) (s : Buffered) (u : Reader) (hs : List Words) → withoutBuffer s ≡ u → SoundState s hs
       → Claim n s u hs Rest E
   unfolding stepsOf lastOf
   steps-agree zero s u hs e o = λ rest end. rest hs refl e (between o)
@@ -114,14 +109,14 @@ module _ (ks : List Key) where
       g = step-agrees ks s hs o
 
       Later : Type 0
-      Later = (hs′ : List Words) → Before (b .state) hs′ → Claim n (b .state) (t .state) hs′ Rest E
+      Later = (hs′ : List Words) → SoundState (b .state) hs′ → Claim n (b .state) (t .state) hs′ Rest E
 
       -- a store of demand 3's kind ends the comparison; without one it goes on
       after : Later → (c : Bool) → storesHeld hs (b .events) ≡ c → Ending (b .state) (t .state) bs ts Rest → (length bs ≡ length ts → E)
           → if c then IfLast bs E else AgreeSteps (heldAfter hs (b .events)) bs ts Rest E
       after later true q rest end = if-last n (b .state) (t .state) (g .same) end
       after later false q rest end =
-          later (heldAfter hs (b .events)) (record { valid = step-keeps ks s (o .valid) .valid; coherent = g .coherent q }) rest end
+          later (heldAfter hs (b .events)) (step-sound ks s hs o q) rest end
 
       -- this step
       next : Later → Ending s (withoutBuffer s) (b ∷ bs) (t ∷ ts) Rest → (length (b ∷ bs) ≡ length (t ∷ ts) → E) → AgreeSteps hs (b ∷ bs) (t ∷ ts) Rest E
