@@ -1,0 +1,64 @@
+-- Document 01, "How much a contract says": what the functions over memory, page buffer and hint promise, to end as the tree of the rules says.
+use Prim.Native.Nat.{ℕ}
+use mathlib.Core.Path.{_≡_}
+use mathlib.Core.Bool.{Bool}
+use mathlib.Core.List.{List, []}
+use lib.ListN.{length}
+use Rattle.paging.specs.declared.Entry.{Entry}
+use Rattle.paging.specs.declared.Space.{Space}
+use Rattle.paging.specs.declared.Fault.{Fault}
+use Rattle.paging.specs.declared.Answer.{Answer}
+use Rattle.paging.specs.declared.Answer.the-variants.{At, Denied}
+use Rattle.paging.specs.Translate.{buffered}
+use Rattle.buffer.specs.Held.{held}
+use Rattle.mmu.specs.Good.{Good}
+use Rattle.mmu.specs.State.{State as Result, state as result}
+use Rattle.rules.specs.declared.Regs.{Regs}
+use Rattle.rules.specs.declared.Cpu.{Cpu}
+use Rattle.rules.specs.Tree.{Tree, Grant, Ended, storeAll, interpret}
+use Rattle.rules.specs.Outcome.{Out, fine, unfetched, trap, refused, system}
+use Rattle.rules.specs.Trap.{Final}
+use Rattle.rules.specs.Step.{State, finished}
+use Rattle.outcome.specs.declared.End.{End}
+use Rattle.outcome.specs.declared.End.the-variants as end
+use Rattle.outcome.specs.declared.Done.{Done}
+
+-- ---- the code's answers
+
+abbrev pub ok : Regs → Done
+ok r = record { a = r .a; b = r .b; c = r .c; sp = r .sp; pc = r .pc; end = end.Ok }
+
+abbrev pub bad : End → Done
+bad e = record { a = 0; b = 0; c = 0; sp = 0; pc = 0; end = e }
+
+abbrev pub faultOf : Answer → Fault
+faultOf (At p) = record { code = 0; address = 0 }
+faultOf (Denied f) = f
+
+-- ---- an instruction
+
+-- the code's answer for a rule's, with the stores made
+unfoldable pub madeBy : Out → List Grant → List ℕ → List Entry → Result Done
+madeBy (fine r vs) gs m es = result (ok r) (storeAll gs vs m) es
+madeBy (unfetched f) gs m es = result (bad (end.Unfetched f)) m es
+madeBy (trap code) gs m es = result (bad (end.Trap code)) m es
+madeBy (refused f) gs m es = result (bad (end.Refused f)) m es
+madeBy (system op) gs m es = result (bad (end.System op)) m es
+
+abbrev pub made : Ended (List Entry) Out → Result Done
+made e = madeBy (e .leaf) (e .grants) (e .mem) (e .buffer)
+
+-- with writes gs granted, from memory m and buffer l: the code answered d, with memory m′ and buffer l′, as the tree says
+pub record Executes (t : Tree Out) (s : Space) (user : Bool) (gs : List Grant) (m l : List ℕ) (d : Done) (m′ l′ : List ℕ) : Type 0 where
+  pub same : result d m′ (held l′) ≡ made (interpret buffered s user t m (held l) gs)
+  pub good : Good (length m′) (s .pdir) l′
+
+-- ---- a step, or the rest of one
+
+abbrev pub stateOf : Cpu → List ℕ → List ℕ → List ℕ → State (List Entry)
+stateOf c m con l = record { cpu = c; mem = m; console = con; buffer = held l }
+
+-- from the record k, memory m, console con and buffer l: the code answered c, with m′, con′ and l′, as the tree says
+pub record Finishes (t : Tree Final) (k : Cpu) (m con l : List ℕ) (c : Cpu) (m′ con′ l′ : List ℕ) : Type 0 where
+  pub same : stateOf c m′ con′ l′ ≡ finished buffered (k .regs .count) (k .space) (k .written) con (interpret buffered (k .space) (k .system .user) t m (held l) [])
+  pub good : Good (length m′) (c .space .pdir) l′
