@@ -1,0 +1,261 @@
+// Document 01, "Opcodes": the block instructions, one byte a step.
+ghost use mathlib.Core.Path.{_≡_};
+ghost use mathlib.Core.List.{[]};
+ghost use Prim.Native.Nat.{ℕ, _<_};
+ghost use lib.ListN.{length};
+ghost use Rattle.decode.specs.declared.BlockOp.the-variants.{Mcpy, Mcmp, Mchr, Mset};
+ghost use Rattle.mmu.specs.Good.{Good};
+ghost use Rattle.rules.specs.Block.{blockEnd, again as againOf, nextA, nextB, compared as comparedOf, searched as searchedOf, byteTree, blockTree};
+ghost use Rattle.outcome.specs.Contract.{Executes};
+use decode::BlockOp;
+use memory::Size;
+use outcome::Done;
+use outcome::End;
+use paging::Access;
+use paging::Answer;
+use paging::Space;
+use rules::Regs;
+
+// The registers where c = 0.
+fn finish(r: Regs, op: BlockOp) -> Regs
+    ensures { λ x. ⌜ x ≡ blockEnd op r ⌝ }
+{
+    let mut n = r;
+    match op {
+        BlockOp::Mcpy => {}
+        BlockOp::Mcmp => n.a = 0,
+        BlockOp::Mchr => n.a = 0,
+        BlockOp::Mset => {}
+    }
+    n
+}
+
+// Back to the instruction, with c one less and a one more.
+fn again(r: Regs) -> Regs
+    ensures { λ x. ⌜ x ≡ nextA (againOf r) ⌝ }
+{
+    Regs {
+        a: word::sum(r.a, 1),
+        b: r.b,
+        c: word::difference(r.c, 1),
+        sp: r.sp,
+        pc: word::difference(r.pc, 4),
+        count: r.count,
+    }
+}
+
+// The same, with b one more too.
+fn again_both(r: Regs) -> Regs
+    ensures { λ x. ⌜ x ≡ nextA (nextB (againOf r)) ⌝ }
+{
+    Regs {
+        a: word::sum(r.a, 1),
+        b: word::sum(r.b, 1),
+        c: word::difference(r.c, 1),
+        sp: r.sp,
+        pc: word::difference(r.pc, 4),
+        count: r.count,
+    }
+}
+
+fn compared(r: Regs, x: u32, y: u32) -> Regs
+    ensures { λ n. ⌜ n ≡ comparedOf x y r ⌝ }
+{
+    if x == y {
+        return again_both(r);
+    }
+    Regs {
+        a: word::difference(x, y),
+        b: word::sum(r.b, r.c),
+        c: 0,
+        sp: r.sp,
+        pc: r.pc,
+        count: r.count,
+    }
+}
+
+fn searched(r: Regs, x: u32) -> Regs
+    ensures { λ n. ⌜ n ≡ searchedOf x r ⌝ }
+{
+    if x == r.b % 256 {
+        return Regs {
+            a: r.a,
+            b: r.b,
+            c: 0,
+            sp: r.sp,
+            pc: r.pc,
+            count: r.count,
+        };
+    }
+    again(r)
+}
+
+fn copy_byte(
+    r: Regs,
+    user: bool,
+    space: Space,
+    mem: &mut [u8],
+    tlb: &mut [u64],
+    hint: &mut [u8; 256],
+) -> Done
+    requires { ⌜ Good (length (now mem)) (space .pdir) (now tlb) ⌝ }
+    ensures { λ d. ⌜ Executes (byteTree Mcpy r) space user [] (now (mem .entry)) (now (tlb .entry)) d (now (mem .exit)) (now (tlb .exit)) ⌝ }
+{
+    let p = mmu::translate(
+        mem,
+        tlb,
+        hint,
+        space.paging,
+        space.pdir,
+        r.b,
+        Size::Byte,
+        Access::Read,
+        user,
+    );
+    let Answer::At(from) = p else {
+        return outcome::ended(End::Refused(outcome::fault_of(p)));
+    };
+    let x = memory::load1(mem, from) as u32;
+    let q = mmu::translate(
+        mem,
+        tlb,
+        hint,
+        space.paging,
+        space.pdir,
+        r.a,
+        Size::Byte,
+        Access::Write,
+        user,
+    );
+    let Answer::At(to) = q else {
+        return outcome::ended(End::Refused(outcome::fault_of(q)));
+    };
+    memory::store1(mem, to, x);
+    outcome::fine(again_both(r))
+}
+
+fn compare_byte(
+    r: Regs,
+    user: bool,
+    space: Space,
+    mem: &mut [u8],
+    tlb: &mut [u64],
+    hint: &mut [u8; 256],
+) -> Done
+    requires { ⌜ Good (length (now mem)) (space .pdir) (now tlb) ⌝ }
+    ensures { λ d. ⌜ Executes (byteTree Mcmp r) space user [] (now (mem .entry)) (now (tlb .entry)) d (now (mem .exit)) (now (tlb .exit)) ⌝ }
+{
+    let p = mmu::translate(
+        mem,
+        tlb,
+        hint,
+        space.paging,
+        space.pdir,
+        r.b,
+        Size::Byte,
+        Access::Read,
+        user,
+    );
+    let Answer::At(first) = p else {
+        return outcome::ended(End::Refused(outcome::fault_of(p)));
+    };
+    let x = memory::load1(mem, first) as u32;
+    let q = mmu::translate(
+        mem,
+        tlb,
+        hint,
+        space.paging,
+        space.pdir,
+        r.a,
+        Size::Byte,
+        Access::Read,
+        user,
+    );
+    let Answer::At(second) = q else {
+        return outcome::ended(End::Refused(outcome::fault_of(q)));
+    };
+    let y = memory::load1(mem, second) as u32;
+    outcome::fine(compared(r, x, y))
+}
+
+fn search_byte(
+    r: Regs,
+    user: bool,
+    space: Space,
+    mem: &mut [u8],
+    tlb: &mut [u64],
+    hint: &mut [u8; 256],
+) -> Done
+    requires { ⌜ Good (length (now mem)) (space .pdir) (now tlb) ⌝ }
+    ensures { λ d. ⌜ Executes (byteTree Mchr r) space user [] (now (mem .entry)) (now (tlb .entry)) d (now (mem .exit)) (now (tlb .exit)) ⌝ }
+{
+    let p = mmu::translate(
+        mem,
+        tlb,
+        hint,
+        space.paging,
+        space.pdir,
+        r.a,
+        Size::Byte,
+        Access::Read,
+        user,
+    );
+    let Answer::At(at) = p else {
+        return outcome::ended(End::Refused(outcome::fault_of(p)));
+    };
+    let x = memory::load1(mem, at) as u32;
+    outcome::fine(searched(r, x))
+}
+
+fn set_byte(
+    r: Regs,
+    user: bool,
+    space: Space,
+    mem: &mut [u8],
+    tlb: &mut [u64],
+    hint: &mut [u8; 256],
+) -> Done
+    requires { ⌜ Good (length (now mem)) (space .pdir) (now tlb) ⌝ }
+    ensures { λ d. ⌜ Executes (byteTree Mset r) space user [] (now (mem .entry)) (now (tlb .entry)) d (now (mem .exit)) (now (tlb .exit)) ⌝ }
+{
+    let p = mmu::translate(
+        mem,
+        tlb,
+        hint,
+        space.paging,
+        space.pdir,
+        r.a,
+        Size::Byte,
+        Access::Write,
+        user,
+    );
+    let Answer::At(at) = p else {
+        return outcome::ended(End::Refused(outcome::fault_of(p)));
+    };
+    memory::store1(mem, at, r.b % 256);
+    outcome::fine(again(r))
+}
+
+// One step of a block instruction; pc has moved on.
+pub fn block(
+    r: Regs,
+    op: BlockOp,
+    user: bool,
+    space: Space,
+    mem: &mut [u8],
+    tlb: &mut [u64],
+    hint: &mut [u8; 256],
+) -> Done
+    requires { ⌜ Good (length (now mem)) (space .pdir) (now tlb) ⌝ }
+    ensures { λ d. ⌜ Executes (blockTree op r) space user [] (now (mem .entry)) (now (tlb .entry)) d (now (mem .exit)) (now (tlb .exit)) ⌝ }
+{
+    if r.c == 0 {
+        return outcome::fine(finish(r, op));
+    }
+    match op {
+        BlockOp::Mcpy => copy_byte(r, user, space, mem, tlb, hint),
+        BlockOp::Mcmp => compare_byte(r, user, space, mem, tlb, hint),
+        BlockOp::Mchr => search_byte(r, user, space, mem, tlb, hint),
+        BlockOp::Mset => set_byte(r, user, space, mem, tlb, hint),
+    }
+}
