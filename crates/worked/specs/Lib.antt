@@ -3,10 +3,12 @@ pub mod Start
 pub mod Line
 pub mod Edge
 pub mod Worked
+pub mod Operations
+pub mod Transfers
+pub mod Blocks
+pub mod Privileged
 pub mod Stops
 pub mod Traps
-pub mod Decisions
-pub mod Privileged
 pub mod Pages
 pub mod Entries
 pub mod Loading

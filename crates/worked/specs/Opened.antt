@@ -1,4 +1,4 @@
--- The rules of document 01, opened: a run and a step under which every definition computes. A line of this crate opens `ranBy` or `stepped` and nothing else.
+-- The rules of document 01, opened: a step and a run under which every definition computes. What unfolds one of these unfolds all that its line names.
 use Prim.Native.Nat.{ℕ}
 use mathlib.Core.List.{List}
 use Rattle.word.specs.Word.{extend, quotient, remainder, shiftLeft, shiftRight, shiftRightUnsigned, shiftCount, lessSigned}

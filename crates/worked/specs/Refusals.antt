@@ -1,12 +1,12 @@
 -- Document 01, "Numbers returned": a run's refusals, 1 to 6, and their edges.
-use Prim.Native.Nat.{ℕ, zero, suc}
+use Prim.Native.Nat.{ℕ}
 use mathlib.Core.Bool.{true, false}
 use mathlib.Core.List.{List, [], _∷_}
 use Rattle.memory.specs.Memory.{sizeOk}
 use Rattle.paging.specs.declared.Entry.{Entry}
 use Rattle.paging.specs.Translate.{buffered}
 use Rattle.rules.specs.Run.{runNumber, firstRefusal, budgetOk}
-use Rattle.worked.specs.Start.{fresh, putSp, putPc, putCount, putTaken, putUsp, putKsp, putIvec, putPdir, putWritten, key, memory, small}
+use Rattle.worked.specs.Start.{fresh, putSp, putPc, putCount, putTaken, putUsp, putKsp, putIvec, putPdir, putWritten, key, entry, entries, memory, small}
 use Rattle.worked.specs.Opened.{ranBy}
 use Rattle.worked.specs.Edge.{Edge, _gives_, Edges, end, _and_}
 use Rattle.worked.specs.Line.{answer, steps, sp, pc, stop, taken, written, _is_, Fact, Line, line, keyed, Both, Hold, done, _also_}
@@ -71,14 +71,6 @@ refusals =
 
 -- ---- edges of the judgements themselves
 
--- an entry of page p with frame f; n entries from page p on
-abbrev entry : (p f : ℕ) → Entry
-entry p f = record { page = p; frame = f; user = true; write = true }
-
-abbrev entries : (n p : ℕ) → List Entry
-entries zero p = []
-entries (suc n) p = entry p 0 ∷ entries n (suc p)
-
 -- the answer of a run of budget 0 with this buffer
 unfoldable pub withBuffer : List Entry → ℕ
 unfolding ranBy
@@ -100,10 +92,10 @@ edges =
     withBuffer (entries 64 0) gives 0 ∷
     withBuffer (entries 65 0) gives 3 ∷
     -- "page 2^20 or more, frame not below M/4,096, or a page twice"
-    withBuffer (entry 1048575 0 ∷ []) gives 0 ∷
-    withBuffer (entry 1048576 0 ∷ []) gives 3 ∷
-    withBuffer (entry 0 1 ∷ []) gives 3 ∷
-    withBuffer (entry 5 0 ∷ entry 6 0 ∷ entry 5 0 ∷ []) gives 3 ∷
+    withBuffer (entry 1048575 0 true true ∷ []) gives 0 ∷
+    withBuffer (entry 1048576 0 true true ∷ []) gives 3 ∷
+    withBuffer (entry 0 1 true true ∷ []) gives 3 ∷
+    withBuffer (entry 5 0 true true ∷ entry 6 0 true true ∷ entry 5 0 true true ∷ []) gives 3 ∷
     -- "Budget 1,000,000 passes, 1,000,001 gives 6"
     runNumber (firstRefusal true true true true true (budgetOk 1000000)) gives 0 ∷
     runNumber (firstRefusal true true true true true (budgetOk 1000001)) gives 6 ∷

@@ -1,8 +1,9 @@
 -- What a line starts from: a record and a memory. Document 01, "The record and the loaded program".
-use Prim.Native.Nat.{ℕ, _+_, _-_, _*_, _/_, _%_}
-use mathlib.Core.Bool.{true, false}
+use Prim.Native.Nat.{ℕ, zero, suc, _+_, _-_, _*_, _/_, _%_}
+use mathlib.Core.Bool.{Bool, true, false}
 use mathlib.Core.List.{List, [], _∷_, _++_}
 use lib.ListN.{length, replicate}
+use Rattle.paging.specs.declared.Entry.{Entry}
 use Rattle.rules.specs.declared.Cpu.{Cpu}
 use Rattle.rules.specs.declared.Key.{Key}
 use Rattle.rules.specs.declared.Stop.{Stop}
@@ -69,6 +70,14 @@ stoppedFor x c = withStop x c
 -- a key: its step number and its byte
 abbrev pub key : (step byte : ℕ) → Key
 key n x = record { step = n; byte = x }
+
+-- an entry of the page buffer; and n entries of the pages from p on, with frame 0 and both rights
+abbrev pub entry : (page frame : ℕ) (user write : Bool) → Entry
+entry p f u w = record { page = p; frame = f; user = u; write = w }
+
+abbrev pub entries : (n p : ℕ) → List Entry
+entries zero p = []
+entries (suc n) p = entry p 0 true true ∷ entries n (suc p)
 
 -- ---- memory
 
