@@ -1,0 +1,78 @@
+-- Document 01, "Numbers returned": what holds of a file that is not refused. Assumes nothing.
+use Prim.Native.Nat.{ℕ, _-_, _%_, _<_, _≤_}
+use mathlib.Core.Bool.{Bool, true, false, _&&_, false≢true}
+use mathlib.Core.List.{List}
+use mathlib.Core.Path.{_≡_, refl, sym, _∙_}
+use native.Mathlib.Omega.{arith}
+use borrow.Author.Tests.{leb-true}
+use lib.Dec.{eqb, ltb, leb}
+use lib.ListN.{length}
+use Rattle.word.specs.Word.{if_then_else_}
+use Rattle.memory.specs.Memory.{sizeOk}
+use Rattle.executable.specs.declared.LoadAnswer.{LoadAnswer}
+use Rattle.executable.specs.declared.LoadAnswer.the-variants.{Accepted, BadSize, ShortFile, BadMagic, BadBody, BadDataStart, BadEntry}
+use Rattle.executable.specs.Executable.{loadNumber, magicOf, entryOf, bodyOf, bodyOk, loadAnswer}
+use Rattle.rules.specs.declared.Cpu.{Cpu}
+use Rattle.rules.specs.declared.Machine.{Machine}
+use Rattle.rules.specs.Load.{cpuWith, zeroCpu, emptyMachine, image, loadBy, load}
+use Rattle.loader.specs.Loader.{Loadable, loadedWith}
+
+-- a choice whose other side is a refusal
+chosen : (t : Bool) (x y : LoadAnswer) → 0 < loadNumber y → (if t then x else y) ≡ Accepted → (t ≡ true) × (x ≡ Accepted)
+chosen true x y r e = (refl, e)
+chosen false x y r e = let z : 0 < loadNumber Accepted = rw e at r in absurd (omega arith)
+
+-- both of two tests
+both : (a b : Bool) → (a && b) ≡ true → (a ≡ true) × (b ≡ true)
+both true b e = (refl, e)
+both false b e = absurd (false≢true e)
+
+-- an accepted file can be loaded
+pub loadable : (size : ℕ) (file : List ℕ) → loadAnswer size file ≡ Accepted → Loadable size file
+unfolding loadAnswer sizeOk
+loadable size file e =
+    let s = chosen (sizeOk size) _ _ (omega arith) e in
+    let l = chosen (leb 16 (length file)) _ _ (omega arith) (s .1) in
+    let m = chosen (eqb (magicOf file) 0xc0def00d) _ _ (omega arith) (l .1) in
+    let b = chosen (bodyOk size (length file - 16)) _ _ (omega arith) (m .1) in
+    let h : 16 ≤ length file = leb-true 16 (length file) (l .0) in
+    let f : length file - 16 ≤ size = leb-true (length file - 16) size (both (ltb 0 (length file - 16)) _ (b .0) .1) in
+    let n : size ≤ 134217728 = leb-true size 134217728 (both (ltb 0 size && eqb (size % 4096) 0) (leb size 134217728) (s .0) .1) in
+    record { header = h; body = omega arith; small = omega arith }
+
+-- the answer of number 0 is the accepting one
+accepting : (a : LoadAnswer) → loadNumber a ≡ 0 → a ≡ Accepted
+accepting Accepted e = refl
+accepting BadSize e = absurd (omega arith)
+accepting ShortFile e = absurd (omega arith)
+accepting BadMagic e = absurd (omega arith)
+accepting BadBody e = absurd (omega arith)
+accepting BadDataStart e = absurd (omega arith)
+accepting BadEntry e = absurd (omega arith)
+
+-- what is loaded by any other answer
+refused-by : (a : LoadAnswer) (file m : List ℕ) → (loadNumber a ≡ 0 → ⊥) → loadedWith (record { answer = a; machine = emptyMachine zeroCpu }) m ≡ loadBy a file m
+refused-by Accepted file m n = absurd (n refl)
+refused-by BadSize file m n = refl
+refused-by ShortFile file m n = refl
+refused-by BadMagic file m n = refl
+refused-by BadBody file m n = refl
+refused-by BadDataStart file m n = refl
+refused-by BadEntry file m n = refl
+
+module _ (file m : List ℕ) {a : LoadAnswer} {n : ℕ} (p : a ≡ loadAnswer (length m) file) (q : n ≡ loadNumber a) where
+  -- a refused load
+  pub refused : {c : Cpu} {r : Machine} → (n ≡ 0 → ⊥) → c ≡ cpuWith 0 0 0 → r ≡ emptyMachine c → loadedWith (record { answer = a; machine = r }) m ≡ load file m
+  unfolding load
+  refused l d e = rw (e, d, ← p) (refused-by a file m (λ z. l (q ∙ z)))
+
+  module _ (z : n ≡ 0) where
+    -- an accepted one: the file can be loaded
+    pub accepted-file : Loadable (length m) file
+    accepted-file = loadable (length m) file (sym p ∙ accepting a (sym q ∙ z))
+
+    -- and is
+    pub accepted : {c : Cpu} {r : Machine} {x : ℕ} {m′ : List ℕ} → m′ ≡ image (length m) (bodyOf file) → x ≡ entryOf file → c ≡ cpuWith (length m) x 0xffffffff → r ≡ emptyMachine c
+        → loadedWith (record { answer = a; machine = r }) m′ ≡ load file m
+    unfolding load
+    accepted f x d e = rw (f, e, d, x, ← p, accepting a (sym q ∙ z))

@@ -1,0 +1,2 @@
+mod Image
+pub mod Accepted

@@ -1,0 +1,54 @@
+-- `loader::copy_body` meets its contract. The loop: the first i bytes of memory are the body's. Assumes nothing.
+use Rattle.loader.proofs.Image.{Front, front-on, placed-end}
+use lib.ListN.{length}
+use borrow.Author.Needs.{needs}
+use native.Mathlib.Omega.{arith}
+use mathlib.Core.Path.{refl}
+use Prim.Native.Nat.{_-_}
+use Rattle.loader.proofs.copy_body.Statement.{statement}
+use Rattle.loader.proofs.copy_body.Tie as tie
+
+abbrev Inv-loop : tie.InvT-loop
+Inv-loop body mem₀ i₀ mem i = Front body mem₀ i mem
+
+abbrev μ-loop : tie.MeasureT-loop
+μ-loop body mem₀ i₀ mem i = length body - i
+
+loop-holds : tie.Need-loop-holds Inv-loop μ-loop
+loop-holds c = record { same = refl; size = refl; within = omega arith }
+
+shared-slice-read-mem : tie.Need-shared-slice-read-mem Inv-loop μ-loop
+shared-slice-read-mem c = search needs
+
+slice-write-mem : tie.Need-slice-write-mem Inv-loop μ-loop
+slice-write-mem c = omega arith
+
+add-i : tie.Need-add-i Inv-loop μ-loop
+add-i c = search needs
+
+loop-less : tie.Need-loop-less Inv-loop μ-loop
+loop-less c = search needs
+
+loop-again : tie.Need-loop-again Inv-loop μ-loop
+loop-again c = front-on (omega arith) (omega arith) refl (c .before .before .loop .inv)
+
+same-length : tie.Need-same-length Inv-loop μ-loop
+same-length c = c .before .loop .inv .size
+
+returns : tie.Need-returns Inv-loop μ-loop
+returns c = placed-end (c .loop-test .left) (c .before .loop .inv)
+
+pub copy-body-spec : {M : Type 1} → statement M
+copy-body-spec =
+    tie.close
+    (tie.spec
+    Inv-loop
+    μ-loop
+    loop-holds
+    shared-slice-read-mem
+    slice-write-mem
+    add-i
+    loop-less
+    loop-again
+    same-length
+    returns)

@@ -1,0 +1,50 @@
+-- `loader::zero_from` meets its contract. The loop: memory up to `at` is what is asked, the rest as it was. Assumes nothing.
+use Rattle.loader.proofs.Image.{Front, zeroed-start, zeroed-on, zeroed-end}
+use Rattle.loader.specs.Loader.{zeroed}
+use lib.ListN.{length}
+use borrow.Author.Needs.{needs}
+use native.Mathlib.Omega.{arith}
+use Prim.Native.Nat.{_-_, _≤_}
+use Rattle.loader.proofs.zero_from.Statement.{statement}
+use Rattle.loader.proofs.zero_from.Tie as tie
+
+abbrev Inv-loop : tie.InvT-loop
+Inv-loop mem₀ from at₀ mem at = Front (zeroed from mem₀) mem₀ at mem × (from ≤ at)
+
+abbrev μ-loop : tie.MeasureT-loop
+μ-loop mem₀ from at₀ mem at = length mem₀ - at
+
+loop-holds : tie.Need-loop-holds Inv-loop μ-loop
+loop-holds c = (zeroed-start _ _ (c .pre), omega arith)
+
+slice-write-mem : tie.Need-slice-write-mem Inv-loop μ-loop
+slice-write-mem c = omega arith
+
+add-at : tie.Need-add-at Inv-loop μ-loop
+add-at c = search needs
+
+loop-less : tie.Need-loop-less Inv-loop μ-loop
+loop-less c = omega arith
+
+loop-again : tie.Need-loop-again Inv-loop μ-loop
+loop-again c = (zeroed-on _ _ (c .before .before .pre) (c .before .loop .inv .1) (omega arith) (c .before .loop .inv .0), omega arith)
+
+same-length : tie.Need-same-length Inv-loop μ-loop
+same-length c = c .before .loop .inv .0 .size
+
+returns : tie.Need-returns Inv-loop μ-loop
+returns c = zeroed-end _ _ (c .before .before .pre) (omega arith) (c .before .loop .inv .0)
+
+pub zero-from-spec : {M : Type 1} → statement M
+zero-from-spec =
+    tie.close
+    (tie.spec
+    Inv-loop
+    μ-loop
+    loop-holds
+    slice-write-mem
+    add-at
+    loop-less
+    loop-again
+    same-length
+    returns)
