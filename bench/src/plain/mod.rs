@@ -1,0 +1,144 @@
+//! A plain, idiomatic interpreter of the rules of document 01: `&mut self` methods, a match on the opcode byte, `Result` and `?`,
+//! slices with bounds checks, one byte at a time for block opcodes. It refuses nothing: its inputs are the workloads.
+
+mod execute;
+mod translate;
+
+use translate::Access;
+
+#[derive(Clone, Copy, Default)]
+pub struct Entry {
+    pub page: u32,
+    pub frame: u32,
+    pub user: bool,
+    pub write: bool,
+}
+
+/// A fault: its code, and the address asked where it has one.
+pub enum Fault {
+    Code(u32),
+    At(u32, u32),
+}
+
+pub struct Key {
+    pub step: u64,
+    pub byte: u8,
+}
+
+pub struct Machine {
+    pub a: u32,
+    pub b: u32,
+    pub c: u32,
+    pub sp: u32,
+    pub usp: u32,
+    pub ksp: u32,
+    pub pc: u32,
+    pub ivec: u32,
+    pub pdir: u32,
+    pub vadr: u32,
+    pub timer: u32,
+    pub timeout: u32,
+    pub kbchar: u32,
+    pub user: bool,
+    pub iena: bool,
+    pub paging: bool,
+    pub waiting: bool,
+    pub stop: u32,
+    pub count: u64,
+    pub taken: usize,
+    pub written: usize,
+    pub held: usize,
+    pub entries: [Entry; 64],
+    pub memory: Vec<u8>,
+    pub console: Vec<u8>,
+}
+
+impl Machine {
+    /// Steps until the budget is used or the machine stops; the steps made.
+    pub fn run(&mut self, keys: &[Key], budget: u64) -> u64 {
+        let mut steps = 0;
+        while steps < budget && self.stop == 0 {
+            self.step(keys);
+            steps += 1;
+        }
+        steps
+    }
+
+    fn step(&mut self, keys: &[Key]) {
+        self.count += 1;
+        if let Some(code) = self.clock(keys) {
+            self.waiting = false;
+            self.deliver(code, self.pc);
+            return;
+        }
+        if self.waiting {
+            return;
+        }
+        let pc = self.pc;
+        let word = match self.translate(pc, Access::Fetch, self.user) {
+            Ok(at) => self.word(at & !3),
+            Err(fault) => return self.trap(fault, pc),
+        };
+        self.pc = pc.wrapping_add(4);
+        if let Err(fault) = self.execute(word) {
+            let next = self.pc;
+            self.pc = pc;
+            self.trap(fault, next);
+        }
+    }
+
+    /// Keys and timer; the interrupt that is due.
+    fn clock(&mut self, keys: &[Key]) -> Option<u32> {
+        let mut due = None;
+        if let Some(key) = keys.get(self.taken).filter(|key| key.step <= self.count) {
+            self.taken += 1;
+            self.kbchar = key.byte as u32;
+            due = self.iena.then_some(2);
+        }
+        if self.timeout != 0 {
+            if self.timer >= self.timeout {
+                self.timer = 0;
+                due = due.or(self.iena.then_some(1));
+            } else {
+                self.timer += 1;
+            }
+        }
+        due
+    }
+
+    fn trap(&mut self, fault: Fault, pc: u32) {
+        let code = match fault {
+            Fault::Code(code) => code,
+            Fault::At(code, address) => {
+                self.vadr = address;
+                code
+            }
+        };
+        if self.iena {
+            self.deliver(code, pc);
+        } else {
+            self.stop = 2;
+        }
+    }
+
+    fn deliver(&mut self, code: u32, pc: u32) {
+        let top = if self.user { self.ksp } else { self.sp };
+        let Ok(first) = self.translate(top.wrapping_sub(8), Access::Write, false) else {
+            self.stop = 3;
+            return;
+        };
+        let Ok(second) = self.translate(top.wrapping_sub(16), Access::Write, false) else {
+            self.stop = 3;
+            return;
+        };
+        self.put_word(first, pc);
+        self.put_word(second, if self.user { code + 16 } else { code });
+        if self.user {
+            self.usp = self.sp;
+            self.user = false;
+        }
+        self.sp = top.wrapping_sub(16);
+        self.iena = false;
+        self.pc = self.ivec;
+    }
+}
