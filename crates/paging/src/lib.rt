@@ -30,12 +30,3 @@ pub enum Answer {
     At(usize),
     Denied(Fault),
 }
-
-// Whether an access writes.
-pub fn is_write(kind: Access) -> bool {
-    match kind {
-        Access::Fetch => false,
-        Access::Read => false,
-        Access::Write => true,
-    }
-}

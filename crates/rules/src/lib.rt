@@ -1,4 +1,6 @@
 // Document 01, "The record and the loaded program": the record, in groups by who writes them.
+ghost use mathlib.Core.Path.{_≡_};
+ghost use Rattle.rules.specs.Record.{stopNumber};
 use paging::Entry;
 use paging::Space;
 
@@ -83,7 +85,9 @@ pub enum RunAnswer {
 }
 
 // The number of a stop reason.
-pub fn stop_number(stop: Stop) -> u32 {
+pub fn stop_number(stop: Stop) -> u32
+    ensures { λ r. ⌜ r ≡ stopNumber stop ⌝ }
+{
     match stop {
         Stop::Running => 0,
         Stop::Halted => 1,
