@@ -1,5 +1,5 @@
 -- Document 01, "Numbers returned": what an accepted run tells of the size of memory and of the page directory.
-use Prim.Native.Nat.{ℕ, _%_, _^_}
+use Prim.Native.Nat.{ℕ, _%_}
 use mathlib.Core.Path.{_≡_, refl}
 use mathlib.Core.Bool.{Bool, true, false, _&&_, false≢true}
 use mathlib.Core.List.{List}
@@ -14,27 +14,28 @@ use Rattle.rules.specs.declared.Cpu.{Cpu}
 use Rattle.rules.specs.declared.Key.{Key}
 use Rattle.rules.specs.Step.{State}
 use Rattle.rules.specs.Run.{registersOk, keysOk, consoleOk, budgetOk, firstRefusal, isAccepted, runAnswer}
+use Rattle.rules.proofs.AcceptableRecord.{registers-acceptable}
 
--- "lower number wins": an accepted run passed the tests for 1 and 2
-accepted-both : (size registers buffer keys console budget : Bool) → isAccepted (firstRefusal size registers buffer keys console budget) ≡ true
-    → (size ≡ true) × (registers ≡ true)
-accepted-both true true buffer keys console budget e = (refl, refl)
-accepted-both true false buffer keys console budget e = absurd (false≢true e)
-accepted-both false registers buffer keys console budget e = absurd (false≢true e)
+-- "lower number wins": an accepted run passed every test
+pub accepted-tests : (size registers buffer keys console budget : Bool) → isAccepted (firstRefusal size registers buffer keys console budget) ≡ true
+    → (size ≡ true) × (registers ≡ true) × (buffer ≡ true) × (keys ≡ true) × (console ≡ true) × (budget ≡ true)
+accepted-tests true true true true true true e = (refl, refl, refl, refl, refl, refl)
+accepted-tests true true true true true false e = absurd (false≢true e)
+accepted-tests true true true true false budget e = absurd (false≢true e)
+accepted-tests true true true false console budget e = absurd (false≢true e)
+accepted-tests true true false keys console budget e = absurd (false≢true e)
+accepted-tests true false buffer keys console budget e = absurd (false≢true e)
+accepted-tests false registers buffer keys console budget e = absurd (false≢true e)
 
 -- 1: memory is whole pages
-size-whole : (size : ℕ) → sizeOk size ≡ true → size % 4096 ≡ 0
+pub size-whole : (size : ℕ) → sizeOk size ≡ true → size % 4096 ≡ 0
 unfolding sizeOk
 size-whole size e = eqb-true (size % 4096) 0 (both (ltb 0 size) _ (both (ltb 0 size && eqb (size % 4096) 0) (leb size 134217728) e .0) .1)
 
 -- 2: the page directory is at a multiple of 4,096
 registers-aligned : (size : ℕ) (c : Cpu) → registersOk size c ≡ true → c .space .pdir % 4 ≡ 0
-unfolding registersOk
 registers-aligned size c e =
-    let r = eqb (c .regs .pc % 4) 0 && eqb (c .system .ivec % 4) 0 && eqb (c .regs .sp % 8) 0 && eqb (c .system .usp % 8) 0 && eqb (c .system .ksp % 8) 0 in
-    let d = eqb (c .space .pdir % 4096) 0 in
-    let l = ltb (c .space .pdir) size in
-    omega (arith, eqb-true (c .space .pdir % 4096) 0 (both r d (both (r && d) l (both (r && d && l) (ltb (c .regs .count) (2 ^ 63)) e .0) .0) .1))
+    omega (arith, registers-acceptable size (c .clock .taken) (c .written) c e (omega arith) (omega arith) .directory .aligned)
 
 -- what a run that is not refused tells of the state that it starts from
 pub record AcceptedState (size : ℕ) (c : Cpu) : Type 0 where
@@ -47,5 +48,5 @@ pub accepted-state : {B : Type 0} (tr : Translator B) (ks : List Key) (budget : 
 unfolding runAnswer
 accepted-state tr ks budget s e =
     let size = length (s .mem) in
-    let p = accepted-both (sizeOk size) (registersOk size (s .cpu)) (tr .accepts size (s .buffer)) (keysOk ks (s .cpu .clock .taken)) (consoleOk (s .cpu .written) (s .console)) (budgetOk budget) e in
+    let p = accepted-tests (sizeOk size) (registersOk size (s .cpu)) (tr .accepts size (s .buffer)) (keysOk ks (s .cpu .clock .taken)) (consoleOk (s .cpu .written) (s .console)) (budgetOk budget) e in
     record { whole = size-whole size (p .0); aligned = registers-aligned size (s .cpu) (p .1) }

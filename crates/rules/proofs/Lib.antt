@@ -4,5 +4,9 @@ pub mod ValidStep
 pub mod Simulation
 pub mod StepAgrees
 pub mod SoundStep
+pub mod AcceptableRecord
 pub mod AcceptedRun
 pub mod StepCount
+pub mod AlignedInstruction
+pub mod AcceptableStep
+pub mod AcceptableRun
