@@ -1,4 +1,5 @@
 pub mod EqualTranscripts
+pub mod Differences
 pub mod StepsAgree
 pub mod RunsAgree
 pub mod SoundRun
