@@ -1,0 +1,4 @@
+pub mod Same
+pub mod Example
+pub mod Tables
+pub mod Capacity
