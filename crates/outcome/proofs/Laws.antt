@@ -34,22 +34,27 @@ store-none [] m = refl
 store-none (g ∷ gs) m = refl
 
 module _ {s : Space} {user : Bool} {gs : List Grant} {m l : List ℕ} (g : Good (length m) (s .pdir) l) {d : Done} where
+  -- new registers and no store
   pub executes-fine : {r : Regs} → d ≡ ok r → Executes (done (fine r [])) s user gs m l d m l
   unfolding interpret madeBy
   executes-fine h = record { same = rw (h, store-none gs m); good = g }
 
+  -- a denied fetch
   pub executes-unfetched : {f : Fault} → d ≡ bad (end.Unfetched f) → Executes (done (unfetched f)) s user gs m l d m l
   unfolding interpret madeBy
   executes-unfetched h = record { same = rw h; good = g }
 
+  -- a fault without an address, or TRAP
   pub executes-trap : {code : ℕ} → d ≡ bad (end.Trap code) → Executes (done (trap code)) s user gs m l d m l
   unfolding interpret madeBy
   executes-trap h = record { same = rw h; good = g }
 
+  -- a denied operand access
   pub executes-refused : {f : Fault} → d ≡ bad (end.Refused f) → Executes (done (refused f)) s user gs m l d m l
   unfolding interpret madeBy
   executes-refused h = record { same = rw h; good = g }
 
+  -- a privileged instruction
   pub executes-system : {op : SysOp} → d ≡ bad (end.System op) → Executes (done (system op)) s user gs m l d m l
   unfolding interpret madeBy
   executes-system h = record { same = rw h; good = g }
@@ -94,23 +99,26 @@ pub fault-told : {a : Answer} {x f : Fault} → a ≡ Denied x → f ≡ faultOf
 fault-told e q = rw e at q
 
 module _ {s : Space} {user : Bool} {gs : List Grant} {n va : ℕ} {m l : List ℕ} {a : Answer} {m′ l′ : List ℕ} where
+  -- an operand access that is denied
   pub executes-denied : {kind : Access} → Translates (s .paging) (s .pdir) (requested kind n va user) m l a m′ l′ → {k : ℕ → Tree Out}
       {x f : Fault} {d : Done} → a ≡ Denied x → f ≡ faultOf a → d ≡ bad (end.Refused f)
       → Executes (ask (access kind n va) (orRefused k)) s user gs m l d m′ l′
   executes-denied t e q h = executes-not t _ e (executes-refused (t .good) (rw (← fault-told e q) h))
 
+  -- an operand that is read
   pub executes-read : Translates (s .paging) (s .pdir) (requested Read n va user) m l a m′ l′ → {k : ℕ → Tree Out} {p v : ℕ}
       {d : Done} {m″ l″ : List ℕ} → a ≡ At p → v ≡ loadN n m′ p → Executes (k v) s user gs m′ l′ d m″ l″ → Executes (reading n va k) s user gs m l d m″ l″
   unfolding isWrite
   executes-read t e f h = executes-got t _ refl e f h
 
+  -- an access for writing that is granted
   pub executes-write : Translates (s .paging) (s .pdir) (requested Write n va user) m l a m′ l′ → {k : ℕ → Tree Out} {p : ℕ}
       {d : Done} {m″ l″ : List ℕ} → a ≡ At p → Executes (k (loadN n m′ p)) s user (grant p n ∷ gs) m′ l′ d m″ l″
       → Executes (ask (access Write n va) (orRefused k)) s user gs m l d m″ l″
   unfolding isWrite
   executes-write t e h = executes-granted t _ refl e h
 
-  -- a write that is granted, and its store
+  -- the same with its store, to the end
   pub executes-written : Translates (s .paging) (s .pdir) (requested Write n va user) m l a m′ l′ → {r : Regs} {p v : ℕ}
       {d : Done} {m″ : List ℕ} → a ≡ At p → d ≡ ok r → m″ ≡ storeN n m′ p v → Executes (writing n va v r) s user gs m l d m″ l′
   executes-written t e h q = executes-write t e (executes-stored (t .good) h q)

@@ -79,6 +79,7 @@ module _ {B A C : Type 0} (tr : Translator B) (s : Space) (user : Bool) (f : A �
   abbrev pub rest : Ended B A → Ended B C
   rest e = after (e .events) (interpret tr s user (f (e .leaf)) (e .mem) (e .buffer) (e .grants))
 
+  -- the first part, then the rest
   pub bind-law : (t : Tree A) (m : List ℕ) (b : B) (gs : List Grant) → interpret tr s user (bind t f) m b gs ≡ rest (interpret tr s user t m b gs)
   unfolding interpret bind
   bind-law (ask q k) m b gs =

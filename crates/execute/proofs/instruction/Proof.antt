@@ -1,0 +1,49 @@
+-- `execute::instruction` meets its contract. Assumes nothing.
+use borrow.Author.Needs.{needs}
+use Rattle.mmu.proofs.Laws.{at-within}
+use Rattle.memory.specs.declared.Size.the-variants.{Word}
+use Rattle.execute.proofs.Laws.{executes-no-fetch, executes-fetched}
+use Rattle.execute.proofs.instruction.Statement.{statement}
+use Rattle.execute.proofs.instruction.Tie as tie
+
+returns : tie.Need-returns
+returns c =
+    let translate = c .before .before .before .before .before .before .before .before .translate in
+    executes-no-fetch _ (translate .ensures) (c .before .before .enum-told .given .1) (c .before .fault-of .ensures) (c .ended .ensures)
+
+load4-requires : tie.Need-load4-requires
+load4-requires c κs =
+    let pre = c .before .before .before .before .before .before .before .before .before .before .before .before .before .before .pre in
+    let translate = c .before .before .before .before .before .before .before .before .translate in
+    at-within Word (pre .0) (translate .ensures) (c .before .before .p .given .1)
+
+returns-2 : tie.Need-returns-2
+returns-2 c =
+    let translate = c .before .before .before .before .before .before .before .before .before .before .before .before .before .before .before .before .before .before .before .before .translate in
+    let p = c .before .before .before .before .before .before .before .before .before .before .before .before .before .before .p in
+    let load4 = c .before .before .before .before .before .before .before .before .before .before .before .load4 in
+    let decode = c .before .before .before .before .before .before .before .before .before .before .decode in
+    let sum = c .before .before .before .before .before .before .before .before .before .sum in
+    let execute = c .before .before .before .before .execute in
+    executes-fetched _ (translate .ensures) (p .given .1) (load4 .ensures) (decode .ensures) (rw (← sum .ensures) (execute .ensures))
+
+pub instruction-spec : {M : Type 1} → statement M
+instruction-spec =
+    tie.close
+    (tie.spec
+    (λ c κs. search needs)
+    (λ c. search needs)
+    (λ c. search needs)
+    (λ c κs. search needs)
+    (λ c κs. search needs)
+    (λ c. search needs)
+    (λ c. search needs)
+    returns
+    load4-requires
+    (λ c κs. search needs)
+    (λ c κs. search needs)
+    (λ c. search needs)
+    (λ c κs. search needs)
+    (λ c. search needs)
+    (λ c. search needs)
+    returns-2)

@@ -1,0 +1,87 @@
+// Document 01, "Opcodes": what instructions make of the registers alone. pc has moved on.
+ghost use mathlib.Core.Path.{_≡_};
+ghost use Rattle.word.specs.Word.{if_then_else_, sum};
+ghost use Rattle.rules.specs.Record.{setSp};
+ghost use Rattle.rules.specs.Transfer.{regOf, putReg, baseOf, highOf};
+ghost use Rattle.rules.specs.Jump.{target as targetOf, jumped};
+use decode::Base;
+use decode::Reg;
+use rules::Regs;
+
+// A general register.
+pub fn reg(r: Regs, d: Reg) -> u32
+    ensures { λ x. ⌜ x ≡ regOf d r ⌝ }
+{
+    match d {
+        Reg::A => r.a,
+        Reg::B => r.b,
+        Reg::C => r.c,
+    }
+}
+
+// The registers with v in one.
+pub fn put(r: Regs, d: Reg, v: u32) -> Regs
+    ensures { λ x. ⌜ x ≡ putReg d v r ⌝ }
+{
+    let mut n = r;
+    match d {
+        Reg::A => n.a = v,
+        Reg::B => n.b = v,
+        Reg::C => n.c = v,
+    }
+    n
+}
+
+// The register that a load's or store's imm is added to.
+pub fn base(r: Regs, b: Base) -> u32
+    ensures { λ x. ⌜ x ≡ baseOf b r ⌝ }
+{
+    match b {
+        Base::Sp => r.sp,
+        Base::Pc => r.pc,
+        Base::A => r.a,
+        Base::B => r.b,
+    }
+}
+
+// LHI and LBHI: the register's low byte above the unsigned field.
+pub fn high(x: u32, field: u32) -> u32
+    ensures { λ v. ⌜ v ≡ highOf x field ⌝ }
+{
+    word::sum(x % 256 * 0x100_0000, field)
+}
+
+// ENT: sp and imm.
+pub fn adjust(r: Regs, imm: u32) -> Regs
+    ensures { λ x. ⌜ x ≡ setSp (sum (r .sp) imm) r ⌝ }
+{
+    let mut n = r;
+    n.sp = word::sum(r.sp, imm) / 8 * 8;
+    n
+}
+
+// The target of a jump or branch.
+pub fn target(r: Regs, imm: u32) -> u32
+    ensures { λ x. ⌜ x ≡ targetOf imm r ⌝ }
+{
+    word::sum(r.pc, imm)
+}
+
+// A jump, which drops the low bits of its target.
+pub fn jump(r: Regs, to: u32) -> Regs
+    ensures { λ x. ⌜ x ≡ jumped to r ⌝ }
+{
+    let mut n = r;
+    n.pc = to / 4 * 4;
+    n
+}
+
+// A branch, taken or not.
+pub fn branch(r: Regs, taken: bool, to: u32) -> Regs
+    ensures { λ x. ⌜ x ≡ (if taken then jumped to r else r) ⌝ }
+{
+    if taken {
+        return jump(r, to);
+    }
+    r
+}

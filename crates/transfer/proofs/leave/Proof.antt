@@ -1,0 +1,50 @@
+-- `transfer::leave` meets its contract. Assumes nothing.
+use borrow.Author.Needs.{needs}
+use Rattle.outcome.proofs.Laws.{executes-denied, executes-read, executes-fine}
+use Rattle.rules.specs.Jump.{leaveTree}
+use Rattle.mmu.proofs.Laws.{at-within}
+use Rattle.memory.specs.declared.Size.the-variants.{Word}
+use Rattle.transfer.proofs.leave.Statement.{statement}
+use Rattle.transfer.proofs.leave.Tie as tie
+
+returns : tie.Need-returns
+unfolding leaveTree
+returns c =
+    let translate = c .before .before .before .before .before .before .before .before .translate in
+    executes-denied (translate .ensures) (c .before .before .enum-told .given .1) (c .before .fault-of .ensures) (c .ended .ensures)
+
+load4-requires : tie.Need-load4-requires
+load4-requires c κs =
+    let pre = c .before .before .before .before .before .before .before .before .before .before .before .before .before .before .pre in
+    let translate = c .before .before .before .before .before .before .before .before .translate in
+    at-within Word pre (translate .ensures) (c .before .before .p .given .1)
+
+returns-2 : tie.Need-returns-2
+unfolding leaveTree
+returns-2 c =
+    let translate = c .before .before .before .before .before .before .before .before .before .before .before .before .translate in
+    let p = c .before .before .before .before .before .before .p in
+    let load4 = c .before .before .before .load4 in
+    executes-read (translate .ensures) (p .given .1) (load4 .ensures) (executes-fine (translate .ensures .good) (rw (c .fine .ensures, c .before .sum2 .ensures, c .before .before .sum .ensures)))
+
+pub leave-spec : {M : Type 1} → statement M
+leave-spec =
+    tie.close
+    (tie.spec
+    (λ c κs. search needs)
+    (λ c. search needs)
+    (λ c. search needs)
+    (λ c κs. search needs)
+    (λ c κs. search needs)
+    (λ c. search needs)
+    (λ c. search needs)
+    returns
+    load4-requires
+    (λ c κs. search needs)
+    (λ c κs. search needs)
+    (λ c. search needs)
+    (λ c. search needs)
+    (λ c κs. search needs)
+    (λ c. search needs)
+    (λ c. search needs)
+    returns-2)

@@ -1,0 +1,52 @@
+-- `transfer::store` meets its contract. Assumes nothing.
+use borrow.Author.Needs.{needs}
+use Rattle.outcome.proofs.Laws.{executes-denied, executes-written}
+use Rattle.rules.specs.Transfer.{storeTree}
+use Rattle.mmu.proofs.Laws.{at-within}
+use Rattle.transfer.proofs.store.Statement.{statement}
+use Rattle.transfer.proofs.store.Tie as tie
+
+returns : tie.Need-returns
+unfolding storeTree
+returns c =
+    let base = c .before .before .before .before .before .before .before .before .before .before .before .before .before .base in
+    let sum = c .before .before .before .before .before .before .before .before .before .before .before .before .sum in
+    let translate = c .before .before .before .before .before .before .before .before .translate in
+    rw (← base .ensures, ← sum .ensures) (executes-denied (translate .ensures) (c .before .before .enum-told .given .1) (c .before .fault-of .ensures) (c .ended .ensures))
+
+store-requires : tie.Need-store-requires
+store-requires c κs =
+    let args = c .before .before .before .before .before .before .before .before .before .before .before .before .before .before .before .before .args in
+    let pre = c .before .before .before .before .before .before .before .before .before .before .before .before .before .before .before .before .pre in
+    let translate = c .before .before .before .before .before .before .before .before .translate in
+    at-within (args .s) pre (translate .ensures) (c .before .before .p .given .1)
+
+returns-2 : tie.Need-returns-2
+unfolding storeTree
+returns-2 c =
+    let base = c .before .before .before .before .before .before .before .before .before .before .before .before .before .before .before .before .before .base in
+    let sum = c .before .before .before .before .before .before .before .before .before .before .before .before .before .before .before .before .sum in
+    let translate = c .before .before .before .before .before .before .before .before .before .before .before .before .translate in
+    let p = c .before .before .before .before .before .before .p in
+    let store = c .before .before .before .store in
+    rw (← base .ensures, ← sum .ensures) (executes-written (translate .ensures) (p .given .1) (c .fine .ensures) (store .ensures))
+
+pub store-spec : {M : Type 1} → statement M
+store-spec =
+    tie.close
+    (tie.spec
+    (λ c κs. search needs)
+    (λ c κs. search needs)
+    (λ c κs. search needs)
+    (λ c. search needs)
+    (λ c. search needs)
+    (λ c κs. search needs)
+    (λ c κs. search needs)
+    (λ c. search needs)
+    (λ c. search needs)
+    returns
+    store-requires
+    (λ c κs. search needs)
+    (λ c. search needs)
+    (λ c. search needs)
+    returns-2)
