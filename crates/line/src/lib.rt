@@ -1,0 +1,52 @@
+// Document 01, "Worked lines": the line that the run program prints.
+ghost use mathlib.Core.Path.{_≡_};
+ghost use Prim.Native.Nat.{_+_, _≤_};
+ghost use lib.ListN.{length};
+ghost use Rattle.rules.specs.Record.{stopNumber};
+ghost use Rattle.line.specs.Line.{refusedLine, stopLine, Shows};
+ghost use Rattle.line.specs.Room.{Named};
+use rules::Regs;
+use rules::Stop;
+
+// A name, and its number.
+fn named(line: &mut [u8], at: usize, name: &[u8], n: u64) -> usize
+    requires { ⌜ at + length (now name) + 20 ≤ length (now line) ⌝ }
+    ensures { λ r. ⌜ Named (now (name .entry)) n (now (line .entry)) at (now (line .exit)) r ⌝ }
+{
+    let end = text::put(line, at, name);
+    text::decimal(line, end, n)
+}
+
+// The number of a stop reason.
+fn reason(stop: Stop) -> u64
+    ensures { λ r. ⌜ r ≡ stopNumber stop ⌝ }
+{
+    match stop {
+        Stop::Running => 0,
+        Stop::Halted => 1,
+        Stop::Masked => 2,
+        Stop::NoFrame => 3,
+    }
+}
+
+// The line of an accepted load. The result is its length.
+pub fn stop_line(line: &mut [u8], stop: Stop, steps: u64, r: Regs) -> usize
+    requires { ⌜ 169 ≤ length (now line) ⌝ }
+    ensures { λ n. ⌜ Shows (stopLine (stopNumber stop) steps r) (now (line .exit)) n ⌝ }
+{
+    let end = named(line, 0, b"stop ", reason(stop));
+    let end = named(line, end, b" steps ", steps);
+    let end = named(line, end, b" a ", r.a as u64);
+    let end = named(line, end, b" b ", r.b as u64);
+    let end = named(line, end, b" c ", r.c as u64);
+    let end = named(line, end, b" sp ", r.sp as u64);
+    named(line, end, b" pc ", r.pc as u64)
+}
+
+// The line of a refused load. The result is its length.
+pub fn refused_line(line: &mut [u8], number: u32) -> usize
+    requires { ⌜ 28 ≤ length (now line) ⌝ }
+    ensures { λ n. ⌜ Shows (refusedLine number) (now (line .exit)) n ⌝ }
+{
+    named(line, 0, b"refused ", number as u64)
+}
