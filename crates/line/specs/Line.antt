@@ -1,5 +1,5 @@
 -- Document 01, "Worked lines": the line that the run program prints, as its bytes.
-use Prim.Native.Nat.{ℕ}
+use Prim.Native.Nat.{ℕ, _≤_}
 use mathlib.Core.Path.{_≡_}
 use mathlib.Core.List.{List, [], _∷_, _++_}
 use lib.ListN.{length, take}
@@ -61,7 +61,9 @@ stopLine stop steps r =
 unfoldable pub refusedLine : ℕ → List ℕ
 refusedLine n = named refusedName n
 
--- the first r bytes of l are a line
+-- the first r bytes of l are a line; the last two parts follow from the others, and stand here for callers that lend those bytes on
 pub record Shows (text l : List ℕ) (r : ℕ) : Type 0 where
   pub end : r ≡ length text
   pub front : take r l ≡ text
+  pub within : r ≤ length l
+  pub counts : r ≡ length (take r l)

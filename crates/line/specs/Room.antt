@@ -1,9 +1,9 @@
 -- The room that a name and its number take. Assumes nothing.
 use Prim.Native.Nat.{ℕ, _+_, _≤_}
 use mathlib.Core.List.{List, _++_}
-use mathlib.Core.Path.{_≡_}
+use mathlib.Core.Path.{_≡_, sym, ap, _∙_}
 use native.Mathlib.Omega.{arith}
-use lib.ListN.{length, length-append}
+use lib.ListN.{length, take, length-append, length-take}
 use Rattle.text.specs.Digits.{decimalOf}
 use Rattle.text.specs.Laws.{length-digits}
 use Rattle.text.specs.Written.{Written}
@@ -25,4 +25,7 @@ named-room {name} {l} {l′} {n} {at} {r} w = record {
 
 -- what is written at the start of a line is the line
 pub shows : {x l l′ : List ℕ} {r : ℕ} → Written x l 0 l′ r → Shows x l′ r
-shows {x} {l} {l′} {r} w = record { end = omega (arith, w .end); front = w .front }
+shows {x} {l} {l′} {r} w =
+    let e : r ≡ length x = omega (arith, w .end) in
+    let n : r ≡ length (take r l′) = e ∙ sym (ap length (w .front)) in
+    record { end = e; front = w .front; within = omega (arith, n ∙ length-take r l′); counts = n }
