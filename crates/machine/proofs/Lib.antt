@@ -1,0 +1,5 @@
+pub mod SettledLaws
+pub mod QuietStep
+pub mod InstructionLaws
+pub mod StepLaws
+pub mod AdvanceLaws

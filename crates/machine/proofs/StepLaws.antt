@@ -1,0 +1,111 @@
+-- Document 01, "One step", rules 4 and 5: the three ends of a step. Assumes nothing.
+use Prim.Native.Nat.{ℕ, _+_}
+use mathlib.Core.Bool.{Bool, true, false}
+use mathlib.Core.Option.{Option, none, some}
+use mathlib.Core.List.{List, []}
+use mathlib.Core.Path.{_≡_, refl, sym, ap, _∙_, subst}
+use lib.ListN.{length}
+use Rattle.word.specs.Word.{if_then_else_}
+use Rattle.paging.specs.Translate.{buffered}
+use Rattle.buffer.specs.Held.{held}
+use Rattle.mmu.specs.Good.{Good}
+use Rattle.mmu.specs.State.{state as result}
+use Rattle.rules.specs.declared.Cpu.{Cpu}
+use Rattle.rules.specs.declared.Next.{Next}
+use Rattle.rules.specs.Tree.{bind, interpret}
+use Rattle.rules.specs.Execute.{instructionTree}
+use Rattle.rules.specs.Trap.{ended, deliverTree}
+use Rattle.rules.specs.Clock.{dueOf, ticked}
+use Rattle.rules.specs.Step.{awake, settleTree, dueTree, stepTree, spaceAfter, finished, steppedBy, stepBy}
+use Rattle.outcome.specs.Contract.{made, stateOf, Finishes}
+use Rattle.outcome.proofs.Steps.{finishes-ended}
+use Rattle.clock.specs.declared.Due.{Due}
+use Rattle.clock.specs.declared.Due.the-variants.{Nothing, Code}
+use Rattle.clock.specs.Due.{dueAs}
+use Rattle.system.specs.Settle.{outOf}
+use Rattle.machine.specs.declared.Ran.{Ran}
+use Rattle.machine.specs.Settled.{shown, settled}
+use Rattle.machine.specs.Instructions.{InstructionsEnd}
+use Rattle.machine.specs.Step.{Steps}
+use Rattle.machine.proofs.SettledLaws.{settled-law}
+
+-- ---- what is due, from the code's answer
+
+-- the rule's answer that the code's stands for
+asDue : Due → Option ℕ
+asDue Nothing = none
+asDue (Code code) = some code
+
+due-back : (o : Option ℕ) → asDue (dueAs o) ≡ o
+unfolding asDue
+due-back none = refl
+due-back (some code) = refl
+
+module _ (k : Next) (c : Cpu) {d : Due} (e : d ≡ dueAs (dueOf k c)) where
+  due-code : {code : ℕ} → d ≡ Code code → dueOf k c ≡ some code
+  unfolding asDue
+  due-code f = sym (due-back (dueOf k c)) ∙ ap asDue (sym e ∙ f)
+
+  due-nothing : d ≡ Nothing → dueOf k c ≡ none
+  unfolding asDue
+  due-nothing f = sym (due-back (dueOf k c)) ∙ ap asDue (sym e ∙ f)
+
+-- ---- the rest of a step
+
+-- rules 1 to 3 leave the address space
+module _ (k : Next) (c : Cpu) {t : Cpu} (f : t ≡ ticked k c) {n : ℕ} {l : List ℕ} (g : Good n (c .space .pdir) l) where
+  pub good-ticked : Good n (t .space .pdir) l
+  unfolding ticked
+  good-ticked = subst (λ (y : Cpu). Good n (y .space .pdir) l) (sym f) g
+
+  pub good-awake : {y : Cpu} → y ≡ awake t → Good n (y .space .pdir) l
+  good-awake e = subst (λ (y : Cpu). Good n (y .space .pdir) l) (sym e) good-ticked
+
+module _ (k : Next) (c : Cpu) {d : Due} (e : d ≡ dueAs (dueOf k c)) {t : Cpu} (f : t ≡ ticked k c) {m con l : List ℕ} where
+  -- a step by its tree, with what is due
+  by-due : (o : Option ℕ) → dueOf k c ≡ o → {x : Cpu} {m′ con′ l′ : List ℕ}
+      → Finishes (dueTree o (length m) (length con) t) t m con l x m′ con′ l′
+      → Steps c k m con l x m′ con′ l′
+  unfolding stepBy stepTree steppedBy ticked
+  by-due o q {x} {m′} {con′} {l′} h =
+      let h′ : Finishes (dueTree (dueOf k c) (length m) (length con) (ticked k c)) (ticked k c) m con l x m′ con′ l′ =
+      subst (λ (y : Cpu). Finishes (dueTree (dueOf k c) (length m) (length con) y) y m con l x m′ con′ l′) f
+      (subst (λ (y : Option ℕ). Finishes (dueTree y (length m) (length con) t) t m con l x m′ con′ l′) (sym q) h) in
+      record { same = h′ .same; good = h′ .good }
+
+  -- something is due: waiting ends and the trap is delivered
+  pub step-due : {code : ℕ} {y x : Cpu} {m′ l′ : List ℕ} → d ≡ Code code → y ≡ awake t
+      → Finishes (deliverTree y code (t .regs .pc)) y m con l x m′ con l′
+      → Steps c k m con l x m′ con l′
+  unfolding dueTree
+  step-due {code} {x = x} {m′} {l′} q w h =
+      let h′ : Finishes (deliverTree (awake t) code (t .regs .pc)) (awake t) m con l x m′ con l′ =
+      subst (λ (z : Cpu). Finishes (deliverTree z code (t .regs .pc)) z m con l x m′ con l′) w h in
+      by-due (some code) (due-code k c e q) (record { same = h′ .same; good = h′ .good })
+
+  -- the machine waits
+  pub step-waits : {x : Cpu} → d ≡ Nothing → t .system .waiting ≡ true → x ≡ t → Good (length m) (t .space .pdir) l → Steps c k m con l x m con l
+  unfolding dueTree spaceAfter
+  step-waits {x} q w p g =
+      let tree = bind (instructionTree (t .regs)) (settleTree (length m) (length con) t) in
+      by-due none (due-nothing k c e q)
+      (subst (λ (b : Bool). Finishes (if b then ended t else tree) t m con l x m con l) (sym w) (finishes-ended {k = t} {c = t} p g))
+
+  -- an instruction, and the rest
+  pub step-executes : {b : Ran} {m′ l′ : List ℕ} {x : Cpu} {m″ con″ l″ : List ℕ} → d ≡ Nothing → t .system .waiting ≡ false → length m′ ≡ length m
+      → InstructionsEnd c (c .regs .count + 1) m l b m′ l′
+      → Finishes (settleTree (length m′) (length con) t (outOf t (shown (b .regs) (b .end)))) t m′ con l′ x m″ con″ l″
+      → Steps c k m con l x m″ con″ l″
+  unfolding dueTree settled ticked
+  step-executes {b} {m′} {l′} {x} {m″} {con″} {l″} q w n h s =
+      let tree = bind (instructionTree (t .regs)) (settleTree (length m) (length con) t) in
+      let ran : stateOf x m″ con″ l″ ≡ settled (length m) t con (result (shown (b .regs) (b .end)) m′ (held l′)) =
+      s .same ∙ ap (λ (i : ℕ). settled i t con (result (shown (b .regs) (b .end)) m′ (held l′))) n in
+      let whole : stateOf x m″ con″ l″
+      ≡ finished buffered (t .regs .count) (t .space) (t .written) con (interpret buffered (t .space) (t .system .user) tree m (held l) []) =
+      ran
+      ∙ h .first refl t con
+      ∙ ap (λ (y : Cpu). settled (length m) t con (made (interpret buffered (y .space) (y .system .user) (instructionTree (y .regs)) m (held l) []))) (sym f)
+      ∙ sym (settled-law (length m) t con (instructionTree (t .regs)) m (held l)) in
+      by-due none (due-nothing k c e q)
+      (subst (λ (b : Bool). Finishes (if b then ended t else tree) t m con l x m″ con″ l″) (sym w) (record { same = whole; good = s .good }))

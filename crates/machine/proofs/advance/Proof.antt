@@ -1,0 +1,150 @@
+-- `machine::advance` meets its contract. Assumes nothing.
+use native.Mathlib.Omega.{arith}
+use mathlib.Core.Path.{_∙_, ap}
+use borrow.Author.Needs.{needs}
+use Rattle.rules.specs.declared.Regs.{Regs}
+use Rattle.clock.specs.Quiet.{afterQuiet}
+use Rattle.machine.proofs.InstructionLaws.{not-ok}
+use Rattle.machine.proofs.AdvanceLaws.{few, all-room, early-room, advance-step, advance-all, advance-early}
+use Rattle.machine.proofs.advance.Statement.{statement}
+use Rattle.machine.proofs.advance.Tie as tie
+
+step-requires : tie.Need-step-requires
+step-requires c κs =
+    let pre = c .before .before .before .before .before .before .before .before .before .pre in
+    (pre .0 .good, (omega (arith, pre .0 .some, pre .0 .count), pre .1))
+
+sub-t24 : tie.Need-sub-t24
+sub-t24 c =
+    let pre = c .before .before .before .before .before .before .before .before .before .before .before .before .before .before .before .before .pre in
+    omega (arith, pre .0 .some)
+
+returns : tie.Need-returns
+returns c =
+    let pre = c .before .before .before .before .before .before .before .before .before .before .before .before .before .before .before .before .pre in
+    let step = c .before .before .before .before .before .before .step in
+    advance-step _ _ _ (pre .0) (step .ensures) (step .kept .1 .1 .0)
+
+add-instructions : tie.Need-add-instructions
+add-instructions c =
+    let pre = c .before .before .before .before .before .before .pre in
+    omega (arith, few _ _ _ (c .before .before .steps .ensures), pre .0 .count)
+
+counted-requires : tie.Need-counted-requires
+counted-requires c κs =
+    let instructions = c .before .before .before .before .before .before .instructions in
+    let steps = c .before .before .before .before .before .before .before .before .before .before .before .before .steps in
+    let pre = c .before .before .before .before .before .before .before .before .before .before .before .before .before .before .before .before .pre in
+    omega (arith, instructions .ensures .early (not-ok _ (c .match .keys2)) .0, few _ _ _ (steps .ensures), pre .0 .count)
+
+after-requires : tie.Need-after-requires
+after-requires c κs =
+    let steps = c .before .before .before .before .before .before .before .before .before .before .before .before .before .steps in
+    let if1 = c .before .before .before .before .before .before .before .before .before .before .before .before .if1 in
+    let instructions = c .before .before .before .before .before .before .before .instructions in
+    rw (c .counted .ensures) (early-room _ _ _ (steps .ensures) (omega (arith, if1 .left)) (instructions .ensures) (not-ok _ (c .before .match .keys2)))
+
+settle-requires : tie.Need-settle-requires
+settle-requires c κs =
+    let after = c .before .before .before .before .before .after in
+    let instructions = c .before .before .before .before .before .before .before .before .before .before .before .before .before .instructions in
+    rw (after .ensures) (instructions .ensures .good)
+
+sub-t40 : tie.Need-sub-t40
+sub-t40 c =
+    let instructions = c .before .before .before .before .before .before .before .before .before .before .before .before .before .before .before .before .before .before .before .before .before .before .instructions in
+    instructions .ensures .later
+
+sub-t41 : tie.Need-sub-t41
+sub-t41 c =
+    let instructions = c .before .before .before .before .before .before .before .before .before .before .before .before .before .before .before .before .before .before .before .before .before .before .instructions in
+    let met = c .before .before .before .before .before .before .before .before .before .before .before .before .before .before .before .before .match in
+    let steps = c .before .before .before .before .before .before .before .before .before .before .before .before .before .before .before .before .before .before .before .before .before .before .before .before .before .before .before .before .steps in
+    omega (arith, instructions .ensures .early (not-ok _ (met .keys2)) .0, few _ _ _ (steps .ensures))
+
+sub-t42 : tie.Need-sub-t42
+sub-t42 c =
+    let instructions = c .before .before .before .before .before .before .before .before .before .before .before .before .before .before .before .before .before .before .before .before .before .before .instructions in
+    let met = c .before .before .before .before .before .before .before .before .before .before .before .before .before .before .before .before .match in
+    let steps = c .before .before .before .before .before .before .before .before .before .before .before .before .before .before .before .before .before .before .before .before .before .before .before .before .before .before .before .before .steps in
+    omega (arith, instructions .ensures .early (not-ok _ (met .keys2)) .0, few _ _ _ (steps .ensures), instructions .ensures .later)
+
+same-length-4 : tie.Need-same-length-4
+same-length-4 c =
+    let instructions = c .before .before .before .before .before .before .before .before .before .before .before .before .before .before .before .before .before .before .before .before .before .before .instructions in
+    let settle = c .before .before .before .before .before .before .before .before .settle in
+    omega (arith, instructions .kept .1 .1 .0, settle .kept .1 .1 .0)
+
+same-length-6 : tie.Need-same-length-6
+same-length-6 c =
+    let instructions = c .before .before .before .before .before .before .before .before .before .before .before .before .before .before .before .before .before .before .before .before .before .before .instructions in
+    let settle = c .before .before .before .before .before .before .before .before .settle in
+    omega (arith, instructions .kept .1 .1 .1 .0, settle .kept .1 .1 .1 .1 .0)
+
+returns-2 : tie.Need-returns-2
+returns-2 c =
+    let after = c .before .before .before .before .before .before .before .before .before .before .before .before .before .before .after in
+    let given = c .before .before .before .before .before .before .before .before .before .before .before .before .before .before .before .before .before .before .before .before .before .before .before .before .before .before .before .before .before .before .before .before .args in
+    let counted = c .before .before .before .before .before .before .before .before .before .before .before .before .before .before .before .counted in
+    let pre = c .before .before .before .before .before .before .before .before .before .before .before .before .before .before .before .before .before .before .before .before .before .before .before .before .before .before .before .before .before .before .before .before .pre in
+    let steps = c .before .before .before .before .before .before .before .before .before .before .before .before .before .before .before .before .before .before .before .before .before .before .before .before .before .before .before .before .steps in
+    let if1 = c .before .before .before .before .before .before .before .before .before .before .before .before .before .before .before .before .before .before .before .before .before .before .before .before .before .before .before .if1 in
+    let instructions = c .before .before .before .before .before .before .before .before .before .before .before .before .before .before .before .before .before .before .before .before .before .before .instructions in
+    let met = c .before .before .before .before .before .before .before .before .before .before .before .before .before .before .before .before .match in
+    let ended = c .before .before .before .before .before .before .before .before .before .before .before .before .before .ended in
+    let settle = c .before .before .before .before .before .before .before .before .settle in
+    let quiet = after .ensures ∙ ap (λ (q : Regs). afterQuiet (given .c) q) (counted .ensures) in
+    advance-early _ _ _ (pre .0) (steps .ensures) (omega (arith, if1 .left)) (instructions .ensures) (not-ok _ (met .keys2)) quiet (ended .ensures)
+    (instructions .kept .1 .1 .0) (settle .ensures) (settle .kept .1 .1 .0)
+
+after-requires-2 : tie.Need-after-requires-2
+after-requires-2 c κs =
+    let steps = c .before .before .before .before .before .before .before .before .before .before .before .before .before .steps in
+    let if1 = c .before .before .before .before .before .before .before .before .before .before .before .before .if1 in
+    let instructions = c .before .before .before .before .before .before .before .instructions in
+    all-room _ _ _ (steps .ensures) (omega (arith, if1 .left)) (instructions .ensures) (c .enum-told .given .1)
+
+sub-t25 : tie.Need-sub-t25
+sub-t25 c =
+    let steps = c .before .before .before .before .before .before .before .before .before .before .before .before .before .before .steps in
+    few _ _ _ (steps .ensures)
+
+returns-3 : tie.Need-returns-3
+returns-3 c =
+    let pre = c .before .before .before .before .before .before .before .before .before .before .before .before .before .before .before .before .before .before .pre in
+    let steps = c .before .before .before .before .before .before .before .before .before .before .before .before .before .before .steps in
+    let if1 = c .before .before .before .before .before .before .before .before .before .before .before .before .before .if1 in
+    let instructions = c .before .before .before .before .before .before .before .before .instructions in
+    advance-all _ _ _ (pre .0) (steps .ensures) (omega (arith, if1 .left)) (instructions .ensures) (c .before .enum-told .given .1) (c .after2 .ensures)
+    (instructions .kept .1 .1 .0)
+
+pub advance-spec : {M : Type 1} → statement M
+advance-spec =
+    tie.close
+    (tie.spec
+    (λ c κs. search needs)
+    step-requires
+    sub-t24
+    (λ c. search needs)
+    (λ c. search needs)
+    (λ c. search needs)
+    returns
+    add-instructions
+    (λ c κs. search needs)
+    (λ c. search needs)
+    counted-requires
+    after-requires
+    (λ c κs. search needs)
+    settle-requires
+    sub-t40
+    sub-t41
+    sub-t42
+    same-length-4
+    (λ c. search needs)
+    same-length-6
+    returns-2
+    after-requires-2
+    sub-t25
+    (λ c. search needs)
+    (λ c. search needs)
+    returns-3)

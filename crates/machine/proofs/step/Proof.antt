@@ -1,0 +1,66 @@
+-- `machine::step` meets its contract. Assumes nothing.
+use mathlib.Core.Path.{refl}
+use borrow.Author.Needs.{needs}
+use Rattle.machine.proofs.StepLaws.{good-ticked, good-awake, step-due, step-waits, step-executes}
+use Rattle.machine.proofs.step.Statement.{statement}
+use Rattle.machine.proofs.step.Tie as tie
+
+deliver-requires : tie.Need-deliver-requires
+deliver-requires c κs =
+    let tick = c .before .before .before .before .before .before .before .tick in
+    let pre = c .before .before .before .before .before .before .before .before .before .before .before .before .pre in
+    good-awake _ _ (tick .ensures) (pre .0) (c .before .before .before .awake .ensures)
+
+returns : tie.Need-returns
+returns c =
+    let due-trap = c .before .before .before .before .before .before .before .before .before .before .before .before .before .due-trap in
+    let tick = c .before .before .before .before .before .before .before .before .before .before .before .before .tick in
+    let d = c .before .before .before .before .before .before .before .before .before .before .d in
+    let awake = c .before .before .before .before .before .before .before .before .awake in
+    let deliver = c .before .before .before .before .deliver in
+    step-due _ _ (due-trap .ensures) (tick .ensures) (d .given .1) (awake .ensures) (deliver .ensures _)
+
+returns-2 : tie.Need-returns-2
+returns-2 c =
+    let due-trap = c .before .before .before .before .due-trap in
+    let tick = c .before .before .before .tick in
+    let pre = c .before .before .before .before .before .before .before .before .pre in
+    step-waits _ _ (due-trap .ensures) (tick .ensures) (c .before .enum-told .given .1) (c .if1 .taken) refl (good-ticked _ _ (tick .ensures) (pre .0))
+
+settle-requires : tie.Need-settle-requires
+settle-requires c κs =
+    let tick = c .before .before .before .before .before .before .before .before .before .before .before .before .before .before .before .before .before .tick in
+    let instructions = c .before .before .before .before .before .before .before .before .before .instructions in
+    good-ticked _ _ (tick .ensures) (instructions .ensures .good)
+
+returns-3 : tie.Need-returns-3
+returns-3 c =
+    let due-trap = c .before .before .before .before .before .before .before .before .before .before .before .before .before .before .before .before .before .before .before .before .before .before .before .before .before .due-trap in
+    let tick = c .before .before .before .before .before .before .before .before .before .before .before .before .before .before .before .before .before .before .before .before .before .before .before .before .tick in
+    let enum-told = c .before .before .before .before .before .before .before .before .before .before .before .before .before .before .before .before .before .before .before .before .before .before .enum-told in
+    let if1 = c .before .before .before .before .before .before .before .before .before .before .before .before .before .before .before .before .before .before .before .before .before .if1 in
+    let instructions = c .before .before .before .before .before .before .before .before .before .before .before .before .before .before .before .before .instructions in
+    let settle = c .before .before .before .before .before .before .settle in
+    step-executes _ _ (due-trap .ensures) (tick .ensures) (enum-told .given .1) (if1 .left) (instructions .kept .1 .1 .0) (instructions .ensures) (settle .ensures)
+
+pub step-spec : {M : Type 1} → statement M
+step-spec =
+    tie.close
+    (tie.spec
+    (λ c κs. search needs)
+    (λ c κs. search needs)
+    (λ c. search needs)
+    (λ c κs. search needs)
+    deliver-requires
+    (λ c. search needs)
+    (λ c. search needs)
+    returns
+    (λ c. search needs)
+    returns-2
+    (λ c. search needs)
+    (λ c κs. search needs)
+    settle-requires
+    (λ c. search needs)
+    (λ c. search needs)
+    (λ c. search needs)
+    returns-3)

@@ -1,0 +1,4 @@
+pub mod Settled
+pub mod Instructions
+pub mod Step
+pub mod Advance

@@ -1,0 +1,16 @@
+-- Document 01, "One step": what `step` promises.
+use Prim.Native.Nat.{ℕ}
+use mathlib.Core.Path.{_≡_}
+use mathlib.Core.List.{List}
+use lib.ListN.{length}
+use Rattle.paging.specs.Translate.{buffered}
+use Rattle.mmu.specs.Good.{Good}
+use Rattle.rules.specs.declared.Cpu.{Cpu}
+use Rattle.rules.specs.declared.Next.{Next}
+use Rattle.rules.specs.Step.{stepBy}
+use Rattle.outcome.specs.Contract.{stateOf}
+
+-- from the record c, memory m, console con and buffer l, with the next key k: the code answered x, with m′, con′ and l′
+pub record Steps (c : Cpu) (k : Next) (m con l : List ℕ) (x : Cpu) (m′ con′ l′ : List ℕ) : Type 0 where
+  pub same : stateOf x m′ con′ l′ ≡ stepBy buffered k (stateOf c m con l) .state
+  pub good : Good (length m′) (x .space .pdir) l′

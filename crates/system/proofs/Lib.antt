@@ -1,0 +1,6 @@
+pub mod Choices
+pub mod Returning
+pub mod AddressSpace
+pub mod Rest
+pub mod OlderGrants
+pub mod SettleLaw

@@ -1,0 +1,94 @@
+-- Document 01, "Opcodes" and "One step": BOUT, TIME, a privileged instruction in user mode, and the rest of a step, by how its instruction ended.
+-- Assumes nothing.
+use Prim.Native.Nat.{ℕ, _+_, _%_, _≤_, _<_}
+use mathlib.Core.Bool.{Bool, true, false}
+use mathlib.Core.List.{List}
+use mathlib.Core.Path.{_≡_, sym, subst}
+use lib.ListN.{length, set}
+use lib.Dec.{eqb}
+use borrow.Author.Tests.{lt-ltb, le-ltb}
+use Rattle.word.specs.Word.{if_then_else_}
+use Rattle.decode.specs.declared.SysOp.{SysOp}
+use Rattle.decode.specs.declared.SysOp.the-variants.{Time}
+use Rattle.paging.specs.declared.Fault.{Fault}
+use Rattle.paging.specs.TrapCode.{FPRIV}
+use Rattle.mmu.specs.Good.{Good}
+use Rattle.rules.specs.declared.Cpu.{Cpu}
+use Rattle.rules.specs.Record.{putA, withWritten, withClock, withTimeout}
+use Rattle.rules.specs.Trap.{ended, nextPc, trapTree, faultTree}
+use Rattle.rules.specs.System.{boutTree, privilegedTree, systemTree}
+use Rattle.rules.specs.Step.{spaceAfter, settleTree}
+use Rattle.outcome.specs.declared.Done.{Done}
+use Rattle.outcome.specs.declared.End.{End}
+use Rattle.outcome.specs.declared.End.the-variants.{Trap, Refused}
+use Rattle.outcome.specs.Contract.{Finishes}
+use Rattle.outcome.proofs.Steps.{finishes-ended, finishes-printed}
+use Rattle.system.specs.Moved.{movedOn}
+use Rattle.system.specs.Settle.{outBy, outOf}
+use Rattle.system.proofs.Choices.{finishes-then, finishes-else, at-next}
+
+-- ---- "BOUT: b's low byte appended, a = 1; console full, a = 0xFFFFFFFF"
+
+module _ (c : Cpu) {m con l : List ℕ} (g : Good (length m) (c .space .pdir) l) {x : Cpu} where
+  pub bout-room : {y : Cpu} {con′ : List ℕ} → c .written < length con → y ≡ putA 1 c → x ≡ withWritten (c .written + 1) y
+      → con′ ≡ set con (c .written) (c .regs .b % 256) → Finishes (boutTree (length con) c) c m con l x m con′ l
+  unfolding boutTree spaceAfter
+  bout-room h e f z = finishes-then _ _ (lt-ltb _ _ h) (finishes-printed (rw e at f) z g)
+
+  pub bout-full : length con ≤ c .written → x ≡ putA 0xffffffff c → Finishes (boutTree (length con) c) c m con l x m con l
+  unfolding boutTree spaceAfter
+  bout-full h f = finishes-else _ _ (le-ltb _ _ h) (finishes-ended f g)
+
+-- ---- the privileged instructions
+
+-- by the instruction
+pub privileged-at : (size room : ℕ) (c : Cpu) (op : SysOp) {op′ : SysOp} {m con l : List ℕ} {x : Cpu} {m′ con′ l′ : List ℕ} → op ≡ op′
+    → Finishes (privilegedTree size room op′ c (movedOn c)) c m con l x m′ con′ l′
+    → Finishes (privilegedTree size room op c (movedOn c)) c m con l x m′ con′ l′
+privileged-at size room c op {op′} {m} {con} {l} {x} {m′} {con′} {l′} e h =
+    subst (λ z. Finishes (privilegedTree size room z c (movedOn c)) c m con l x m′ con′ l′) (sym e) h
+
+-- ---- "TIME with imm not 0 does nothing"
+
+module _ (size room : ℕ) (c : Cpu) {m con l : List ℕ} (g : Good (length m) (c .space .pdir) l) {n x : Cpu} where
+  pub time-ends : (imm : ℕ) → n ≡ movedOn c → x ≡ (if eqb imm 0 then withClock (withTimeout (n .regs .a) (n .clock)) n else n)
+      → Finishes (privilegedTree size room (Time imm) c (movedOn c)) c m con l x m con l
+  unfolding privilegedTree spaceAfter
+  time-ends imm e f = go (eqb imm 0) (rw e at f)
+    where
+      go : (b : Bool) → x ≡ (if b then withClock (withTimeout (c .regs .a) (c .clock)) (movedOn c) else movedOn c)
+          → Finishes (ended (if b then withClock (withTimeout (c .regs .a) (c .clock)) (movedOn c) else movedOn c)) c m con l x m con l
+      go true q = unfold spaceAfter in finishes-ended q g
+      go false q = unfold spaceAfter in finishes-ended q g
+
+-- ---- "privilege"
+
+module _ (size room : ℕ) (op : SysOp) (c : Cpu) {m con l : List ℕ} {x : Cpu} {m′ con′ l′ : List ℕ} where
+  pub system-denied : {n : ℕ} → c .system .user ≡ true → n ≡ nextPc c → Finishes (trapTree c FPRIV n) c m con l x m′ con′ l′
+      → Finishes (systemTree size room op c) c m con l x m′ con′ l′
+  unfolding systemTree
+  system-denied e p h = finishes-then _ _ e (at-next (trapTree c FPRIV) c p h)
+
+  pub system-allowed : c .system .user ≡ false → Finishes (privilegedTree size room op c (movedOn c)) c m con l x m′ con′ l′
+      → Finishes (systemTree size room op c) c m con l x m′ con′ l′
+  unfolding systemTree
+  system-allowed e h = finishes-else _ _ e h
+
+-- ---- the rest of a step
+
+module _ (size room : ℕ) (c : Cpu) (d : Done) {m con l : List ℕ} {x : Cpu} {m′ con′ l′ : List ℕ} where
+  -- by how the instruction ended
+  pub settle-at : {e : End} → d .end ≡ e → Finishes (settleTree size room c (outBy c d e)) c m con l x m′ con′ l′
+      → Finishes (settleTree size room c (outOf c d)) c m con l x m′ con′ l′
+  settle-at q h = subst (λ z. Finishes (settleTree size room c (outBy c d z)) c m con l x m′ con′ l′) (sym q) h
+
+  -- "The pc stored is the next instruction's for faults in execution and TRAP"
+  pub settle-trap : {code n : ℕ} → d .end ≡ Trap code → n ≡ nextPc c → Finishes (trapTree c code n) c m con l x m′ con′ l′
+      → Finishes (settleTree size room c (outOf c d)) c m con l x m′ con′ l′
+  unfolding settleTree
+  settle-trap {code} q p h = settle-at q (at-next (trapTree c code) c p h)
+
+  pub settle-refused : {f : Fault} {n : ℕ} → d .end ≡ Refused f → n ≡ nextPc c → Finishes (faultTree c f n) c m con l x m′ con′ l′
+      → Finishes (settleTree size room c (outOf c d)) c m con l x m′ con′ l′
+  unfolding settleTree
+  settle-refused {f} q p h = settle-at q (at-next (faultTree c f) c p h)

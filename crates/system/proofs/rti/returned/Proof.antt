@@ -1,0 +1,30 @@
+-- `system::rti::returned` meets its contract. Assumes nothing.
+use borrow.Author.Tests.{eq-eqb, ne-eqb}
+use borrow.Author.Needs.{needs}
+use Rattle.paging.specs.Walk.{bit}
+use Rattle.system.proofs.rti.returned.Statement.{statement}
+use Rattle.system.proofs.rti.returned.Tie as tie
+
+sum-requires : tie.Need-sum-requires
+sum-requires c κs = search needs
+
+mul-sp : tie.Need-mul-sp
+mul-sp c = search needs
+
+mul-next : tie.Need-mul-next
+mul-next c = search needs
+
+returns : tie.Need-returns
+unfolding bit
+returns c =
+    let s7 = c .before .before .before .before .before .before .before in
+    rw (eq-eqb _ _ (c .before .before .before .if1 .taken), s7 .sum .ensures)
+
+returns-2 : tie.Need-returns-2
+unfolding bit
+returns-2 c =
+    let s4 = c .before .before .before .before in
+    rw (ne-eqb _ _ (c .if1 .left), s4 .sum .ensures)
+
+pub returned-spec : {M : Type 1} → statement M
+returned-spec = tie.close (tie.spec sum-requires mul-sp mul-next returns returns-2)

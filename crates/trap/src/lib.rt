@@ -1,0 +1,195 @@
+// Document 01, "Traps": delivery, and the stops.
+ghost use mathlib.Core.Path.{_≡_};
+ghost use mathlib.Core.List.{List};
+ghost use Prim.Native.Nat.{ℕ};
+ghost use lib.ListN.{length};
+ghost use Rattle.mmu.specs.Good.{Good};
+ghost use Rattle.mmu.specs.State.{Translates};
+ghost use Rattle.rules.specs.declared.Stop.the-variants.{Masked, NoFrame};
+ghost use Rattle.rules.specs.Record.{withStop, withVadr};
+ghost use Rattle.rules.specs.Tree.{slot as slotAt};
+ghost use Rattle.rules.specs.Trap.{kernelSp, codeOf, savedUsp, entered as enteredOf, nextPc, deliverTree, trapTree, faultTree};
+ghost use Rattle.outcome.specs.Contract.{Finishes};
+use memory::Size;
+use paging::Access;
+use paging::Answer;
+use paging::Fault;
+use rules::Cpu;
+use rules::Stop;
+
+// ---- parts of the record
+
+pub fn stopped(c: Cpu, s: Stop) -> Cpu
+    ensures { λ x. ⌜ x ≡ withStop s c ⌝ }
+{
+    let regs = c.regs;
+    let clock = c.clock;
+    let space = c.space;
+    let system = c.system;
+    Cpu {
+        regs,
+        clock,
+        vadr: c.vadr,
+        space,
+        system,
+        stop: s,
+        written: c.written,
+    }
+}
+
+// The address of the next instruction.
+pub fn next_pc(c: Cpu) -> u32
+    ensures { λ x. ⌜ x ≡ nextPc c ⌝ }
+{
+    word::sum(c.regs.pc, 4)
+}
+
+fn with_vadr(c: Cpu, address: u32) -> Cpu
+    ensures { λ x. ⌜ x ≡ withVadr address c ⌝ }
+{
+    let mut n = c;
+    n.vadr = address;
+    n
+}
+
+// The stack of the trap.
+fn kernel_sp(c: Cpu) -> u32
+    ensures { λ x. ⌜ x ≡ kernelSp c ⌝ }
+{
+    if c.system.user {
+        return c.system.ksp;
+    }
+    c.regs.sp
+}
+
+fn saved_usp(c: Cpu) -> u32
+    ensures { λ x. ⌜ x ≡ savedUsp c ⌝ }
+{
+    if c.system.user {
+        return c.regs.sp;
+    }
+    c.system.usp
+}
+
+// The mark of a trap from user mode.
+const USER: u32 = 16;
+
+fn trap_code(c: Cpu, code: u32) -> u32
+    ensures { λ x. ⌜ x ≡ codeOf c code ⌝ }
+{
+    if c.system.user {
+        return word::sum(code, USER);
+    }
+    code
+}
+
+// The record in the trap handler.
+fn entered(c: Cpu) -> Cpu
+    ensures { λ x. ⌜ x ≡ enteredOf c ⌝ }
+{
+    let mut n = c;
+    let sp = word::difference(kernel_sp(c), 16);
+    let usp = saved_usp(c);
+    let pc = c.system.ivec;
+    n.regs.sp = sp;
+    n.regs.pc = pc;
+    n.system.usp = usp;
+    n.system.user = false;
+    n.system.iena = false;
+    n
+}
+
+// A trap while iena = 0.
+fn masked(c: Cpu) -> Cpu
+    ensures { λ x. ⌜ x ≡ withStop Masked c ⌝ }
+{
+    stopped(c, Stop::Masked)
+}
+
+// A frame that cannot be stored.
+fn no_frame(c: Cpu) -> Cpu
+    ensures { λ x. ⌜ x ≡ withStop NoFrame c ⌝ }
+{
+    stopped(c, Stop::NoFrame)
+}
+
+// ---- traps
+
+// A slot of the frame, translated for kernel writing.
+fn slot(c: Cpu, addr: u32, mem: &mut [u8], tlb: &mut [u64], hint: &mut [u8; 256]) -> Answer
+    requires { ⌜ Good (length (now mem)) (c .space .pdir) (now tlb) ⌝ }
+    ensures { λ a. ⌜ Translates (c .space .paging) (c .space .pdir) (slotAt addr) (now (mem .entry)) (now (tlb .entry)) a (now (mem .exit)) (now (tlb .exit)) ⌝ }
+{
+    mmu::translate(
+        mem,
+        tlb,
+        hint,
+        c.space.paging,
+        c.space.pdir,
+        addr,
+        Size::Word,
+        Access::Write,
+        false,
+    )
+}
+
+// Both slots of the frame are translated before either is stored.
+pub fn deliver(
+    c: Cpu,
+    code: u32,
+    pc: u32,
+    mem: &mut [u8],
+    tlb: &mut [u64],
+    hint: &mut [u8; 256],
+) -> Cpu
+    requires { ⌜ Good (length (now mem)) (c .space .pdir) (now tlb) ⌝ }
+    ensures { λ x. ⌜ ((con : List ℕ) → Finishes (deliverTree c code pc) c (now (mem .entry)) con (now (tlb .entry)) x (now (mem .exit)) con (now (tlb .exit))) ⌝ }
+{
+    let top = kernel_sp(c);
+    let first = word::difference(top, 8);
+    let second = word::difference(top, 16);
+    let p = slot(c, first, mem, tlb, hint);
+    let Answer::At(x) = p else {
+        return no_frame(c);
+    };
+    let q = slot(c, second, mem, tlb, hint);
+    let Answer::At(y) = q else {
+        return no_frame(c);
+    };
+    memory::store4(mem, x, pc);
+    memory::store4(mem, y, trap_code(c, code));
+    entered(c)
+}
+
+// A fault without an address, or TRAP.
+pub fn trap(
+    c: Cpu,
+    code: u32,
+    pc: u32,
+    mem: &mut [u8],
+    tlb: &mut [u64],
+    hint: &mut [u8; 256],
+) -> Cpu
+    requires { ⌜ Good (length (now mem)) (c .space .pdir) (now tlb) ⌝ }
+    ensures { λ x. ⌜ ((con : List ℕ) → Finishes (trapTree c code pc) c (now (mem .entry)) con (now (tlb .entry)) x (now (mem .exit)) con (now (tlb .exit))) ⌝ }
+{
+    if c.system.iena {
+        return deliver(c, code, pc, mem, tlb, hint);
+    }
+    masked(c)
+}
+
+// A denied access.
+pub fn fault(
+    c: Cpu,
+    f: Fault,
+    pc: u32,
+    mem: &mut [u8],
+    tlb: &mut [u64],
+    hint: &mut [u8; 256],
+) -> Cpu
+    requires { ⌜ Good (length (now mem)) (c .space .pdir) (now tlb) ⌝ }
+    ensures { λ x. ⌜ ((con : List ℕ) → Finishes (faultTree c f pc) c (now (mem .entry)) con (now (tlb .entry)) x (now (mem .exit)) con (now (tlb .exit))) ⌝ }
+{
+    trap(with_vadr(c, f.address), f.code, pc, mem, tlb, hint)
+}
