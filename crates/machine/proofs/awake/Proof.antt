@@ -1,0 +1,10 @@
+-- `machine::awake` meets its contract. Assumes nothing.
+use mathlib.Core.Path.{refl}
+use Rattle.machine.proofs.awake.Statement.{statement}
+use Rattle.machine.proofs.awake.Tie as tie
+
+returns : tie.Need-returns
+returns c = refl
+
+pub awake-spec : {M : Type 1} → statement M
+awake-spec = tie.close (tie.spec returns)
