@@ -41,7 +41,8 @@ unfolding hit has
 hit-none p k user [] h = refl
 hit-none p k user (x ∷ xs) h = go (eqb (x .page) p) h (hit-none p k user xs)
   where
-    go : (b : Bool) → (b || has entryPage p xs) ≡ false → (has entryPage p xs ≡ false → hit p k user xs ≡ none) → cond (b && serves x k user) (some (x .frame)) (hit p k user xs) ≡ none
+    go : (b : Bool) → (b || has entryPage p xs) ≡ false → (has entryPage p xs ≡ false → hit p k user xs ≡ none)
+        → cond (b && serves x k user) (some (x .frame)) (hit p k user xs) ≡ none
     go true h′ f = cc
     go false h′ f = f h′
 

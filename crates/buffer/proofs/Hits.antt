@@ -65,6 +65,7 @@ module _ (l : List ℕ) (i p : ℕ) (k : Access) (user : Bool) where
             ap (λ (x : Entry). x .page) (sym (held-at l i t)) ∙ (ap (λ (j : ℕ). getD (held l) j (unpack 0) .page) w ∙ index-page p (held l) (rw (← w, length-held l b) t)) in
             decides t q ∙ turn z d (rw (eq-eqb _ _ q) at g)
           where
-            turn : (z : Bool) → serves here k user ≡ z → (if z then Frame (here .frame) else Miss) ≡ Miss → cond (serves here k user) (some (here .frame)) none ≡ none
+            turn : (z : Bool) → serves here k user ≡ z → (if z then Frame (here .frame) else Miss) ≡ Miss
+                → cond (serves here k user) (some (here .frame)) none ≡ none
             turn true d g = cc
             turn false d g = rw d

@@ -6,7 +6,7 @@ use mathlib.Core.Path.{_≡_, refl, ap}
 use mathlib.Core.List.{List, [], _∷_, _++_}
 use lib.ListN.{length, set}
 use lib.Dec.{eqb}
-use borrow.Author.Tests.{lt-ltb}
+use borrow.Author.Tests.{lt-ltb, le-ltb}
 use Rattle.word.specs.Word.{if_then_else_}
 use Rattle.paging.specs.declared.Entry.{Entry}
 use Rattle.paging.specs.Buffer.{has, place, entryPage, fits, roomIn, keep}
@@ -20,7 +20,8 @@ unfolding has indexOf
 has-found p [] l = absurd (omega arith)
 has-found p (x ∷ xs) l = go (eqb (x .page) p) l (has-found p xs)
   where
-    go : (b : Bool) → (if b then 0 else suc (indexOf p xs)) < suc (length xs) → (indexOf p xs < length xs → has entryPage p xs ≡ true) → (b || has entryPage p xs) ≡ true
+    go : (b : Bool) → (if b then 0 else suc (indexOf p xs)) < suc (length xs) → (indexOf p xs < length xs → has entryPage p xs ≡ true)
+        → (b || has entryPage p xs) ≡ true
     go true h f = refl
     go false h f = f (omega arith)
 
@@ -29,7 +30,8 @@ unfolding has indexOf
 has-none p [] l = refl
 has-none p (x ∷ xs) l = go (eqb (x .page) p) l (has-none p xs)
   where
-    go : (b : Bool) → suc (length xs) ≤ (if b then 0 else suc (indexOf p xs)) → (length xs ≤ indexOf p xs → has entryPage p xs ≡ false) → (b || has entryPage p xs) ≡ false
+    go : (b : Bool) → suc (length xs) ≤ (if b then 0 else suc (indexOf p xs)) → (length xs ≤ indexOf p xs → has entryPage p xs ≡ false)
+        → (b || has entryPage p xs) ≡ false
     go true h f = absurd (omega arith)
     go false h f = f (omega arith)
 
@@ -38,7 +40,8 @@ unfolding place indexOf
 place-found e [] l = absurd (omega arith)
 place-found e (x ∷ xs) l = go (eqb (x .page) (e .page)) l (place-found e xs)
   where
-    go : (b : Bool) → (if b then 0 else suc (indexOf (e .page) xs)) < suc (length xs) → (indexOf (e .page) xs < length xs → place entryPage e xs ≡ set xs (indexOf (e .page) xs) e)
+    go : (b : Bool) → (if b then 0 else suc (indexOf (e .page) xs)) < suc (length xs)
+        → (indexOf (e .page) xs < length xs → place entryPage e xs ≡ set xs (indexOf (e .page) xs) e)
         → cond b (e ∷ xs) (x ∷ place entryPage e xs) ≡ set (x ∷ xs) (if b then 0 else suc (indexOf (e .page) xs)) e
     go true h f = refl
     go false h f = ap (λ (ys : List Entry). x ∷ ys) (f (omega arith))
@@ -48,15 +51,19 @@ unfolding place indexOf
 place-new e [] l = refl
 place-new e (x ∷ xs) l = go (eqb (x .page) (e .page)) l (place-new e xs)
   where
-    go : (b : Bool) → suc (length xs) ≤ (if b then 0 else suc (indexOf (e .page) xs)) → (length xs ≤ indexOf (e .page) xs → place entryPage e xs ≡ xs ++ (e ∷ []))
+    go : (b : Bool) → suc (length xs) ≤ (if b then 0 else suc (indexOf (e .page) xs))
+        → (length xs ≤ indexOf (e .page) xs → place entryPage e xs ≡ xs ++ (e ∷ []))
         → cond b (e ∷ xs) (x ∷ place entryPage e xs) ≡ x ∷ (xs ++ (e ∷ []))
     go true h f = absurd (omega arith)
     go false h f = ap (λ (ys : List Entry). x ∷ ys) (f (omega arith))
 
 -- ---- the three ways to keep an entry
 
+abbrev Kept : ℕ → List ℕ → List ℕ → Type 0
+Kept e l l′ = (held l′ ≡ keep (unpack e) (held l)) × Buffer l′
+
 module _ (l : List ℕ) (e : ℕ) (b : Buffer l) {i : ℕ} (p : i ≡ indexOf (e / 131072) (held l)) where
-  pub keep-same : i < count l → (held (set l i e) ≡ keep (unpack e) (held l)) × Buffer (set l i e)
+  pub keep-same : i < count l → Kept e l (set l i e)
   unfolding keep roomIn fits
   keep-same h =
       let q : indexOf (e / 131072) (held l) < length (held l) = rw (← p, length-held l b) h in
@@ -67,17 +74,16 @@ module _ (l : List ℕ) (e : ℕ) (b : Buffer l) {i : ℕ} (p : i ≡ indexOf (e
     new : length (held l) ≤ indexOf (e / 131072) (held l)
     new = rw (← p, length-held l b) h
 
-    pub keep-first : count l ≡ 64 → (held (set (set l 0 e) 64 1) ≡ keep (unpack e) (held l)) × Buffer (set (set l 0 e) 64 1)
+    pub keep-first : 64 ≤ count l → Kept e l (set (set l 0 e) 64 1)
     unfolding keep roomIn fits place
     keep-first q =
         let s : 0 < 64 = omega arith in
-        (rw (has-none _ _ new, length-held l b, q) (held-append l b e 0 s), buffer-counted (set l 0 e) (buffer-set l b e 0 s) 1 (omega arith))
+        let r : 64 ≤ length (held l) = rw (length-held l b) q in
+        (rw (has-none _ _ new, le-ltb _ _ r) (held-append l b e 0 s), buffer-counted (set l 0 e) (buffer-set l b e 0 s) 1 (omega arith))
 
-    pub keep-next : (count l ≡ 64 → ⊥) → (held (set (set l (count l) e) 64 (count l + 1)) ≡ keep (unpack e) (held l)) × Buffer (set (set l (count l) e) 64 (count l + 1))
+    pub keep-next : {n : ℕ} → n ≡ count l → n < 64 → Kept e l (set (set l n e) 64 (n + 1))
     unfolding keep roomIn fits held
-    keep-next q =
-        let s : count l < 64 = omega (arith, b .few) in
-        let r : length (held l) < 64 = rw (length-held l b) s in (
-          rw (has-none _ _ new, lt-ltb _ _ r, place-new (unpack e) (held l) new) (held-append l b e (count l) s),
-          buffer-counted (set l (count l) e) (buffer-set l b e (count l) s) (count l + 1) (omega arith),
-        )
+    keep-next {n} c s =
+        let r : length (held l) < 64 = rw (length-held l b, ← c) s in
+        let t = buffer-counted (set l n e) (buffer-set l b e n s) (n + 1) (omega arith) in
+        (rw (has-none _ _ new, lt-ltb _ _ r, place-new (unpack e) (held l) new, ← c) (held-append l b e n s), t)

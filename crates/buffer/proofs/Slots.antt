@@ -21,7 +21,7 @@ map-set f [] i a = refl
 map-set f (x ∷ xs) zero a = refl
 map-set f (x ∷ xs) (suc i) a = ap (λ (ys : List _). f x ∷ ys) (map-set f xs i a)
 
-map-snoc : {A B : Type 0} (f : A → B) (l : List A) (a : A) → map f (l ++ (a ∷ [])) ≡ map f l ++ (f a ∷ [])
+pub map-snoc : {A B : Type 0} (f : A → B) (l : List A) (a : A) → map f (l ++ (a ∷ [])) ≡ map f l ++ (f a ∷ [])
 map-snoc f [] a = refl
 map-snoc f (x ∷ xs) a = ap (λ (ys : List _). f x ∷ ys) (map-snoc f xs a)
 

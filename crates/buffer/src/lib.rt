@@ -3,8 +3,9 @@ ghost use mathlib.Core.List.{[]};
 ghost use mathlib.Core.Path.{_≡_};
 ghost use Prim.Native.Nat.{_+_, _*_, _/_, _%_, _<_};
 ghost use Rattle.paging.specs.Buffer.{serves, keep};
-ghost use Rattle.buffer.specs.Held.{entry, unpack, held, indexOf, slotHit, Buffer};
+ghost use Rattle.buffer.specs.Held.{entry, unpack, count, held, indexOf, slotHit, Buffer};
 use paging::Access;
+use paging::Entry;
 
 // The frame that the buffer gives for a page, or none.
 pub enum Hit {
@@ -20,6 +21,27 @@ pub fn pack(page: u32, frame: u32, user: bool, write: bool) -> u64
     page as u64 * 131072 + (frame as u64 * 4 + (user as u64 * 2 + write as u64))
 }
 
+// The entry of a number.
+pub fn unpack(e: u64) -> Entry
+    requires { ⌜ e / 131072 < 1048576 ⌝ }
+    ensures { λ r. ⌜ r ≡ unpack e ⌝ }
+{
+    Entry {
+        page: (e / 131072) as u32,
+        frame: (e / 4 % 32768) as u32,
+        user: e / 2 % 2 == 1,
+        write: e / 1 % 2 == 1,
+    }
+}
+
+// How many entries are counted.
+pub fn count(tlb: &[u64]) -> usize
+    requires { ⌜ Buffer (now tlb) ⌝ }
+    ensures { λ r. ⌜ r ≡ count (now (tlb .entry)) ⌝ }
+{
+    tlb[64] as usize
+}
+
 // Whether the entry of a number serves an access.
 pub fn serves(e: u64, kind: Access, user: bool) -> bool
     ensures { λ r. ⌜ r ≡ serves (unpack e) kind user ⌝ }
@@ -33,7 +55,7 @@ pub fn slot(tlb: &[u64], i: usize, page: u64, kind: Access, user: bool) -> Hit
     requires { ⌜ Buffer (now tlb) ⌝ }
     ensures { λ r. ⌜ r ≡ slotHit (now (tlb .entry)) i page kind user ⌝ }
 {
-    if i >= tlb[64] as usize {
+    if i >= count(tlb) {
         return Hit::Miss;
     }
     let e = tlb[i];
@@ -50,7 +72,7 @@ pub fn lookup(tlb: &[u64], page: u64) -> usize
     requires { ⌜ Buffer (now tlb) ⌝ }
     ensures { λ r. ⌜ r ≡ indexOf page (held (now (tlb .entry))) ⌝ }
 {
-    let n = tlb[64] as usize;
+    let n = count(tlb);
     let mut i = 0;
     while i < n {
         if tlb[i] / 131072 == page {
@@ -67,7 +89,7 @@ pub fn keep(tlb: &mut [u64], e: u64)
     ensures { λ _. ⌜ (held (now (tlb .exit)) ≡ keep (unpack e) (held (now (tlb .entry)))) × Buffer (now (tlb .exit)) ⌝ }
 {
     let i = lookup(tlb, e / 131072);
-    let n = tlb[64] as usize;
+    let n = count(tlb);
     if i < n {
         tlb[i] = e;
     } else if n == 64 {

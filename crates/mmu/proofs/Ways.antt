@@ -14,6 +14,7 @@ use Rattle.paging.specs.declared.Access.{Access}
 use Rattle.paging.specs.declared.Entry.{Entry}
 use Rattle.paging.specs.declared.Answer.{Answer}
 use Rattle.paging.specs.declared.Answer.the-variants.{At}
+use Rattle.paging.specs.TrapCode.{FMEM}
 use Rattle.paging.specs.Walk.{Found, fault, found, walk}
 use Rattle.paging.specs.Buffer.{hit, keep, afterWalk}
 use Rattle.paging.specs.Translate.{Request, inFrame, denied, direct, answerOf, refilled, pagedBy, paged, translateBy}
@@ -81,8 +82,8 @@ module _ (pdir : ℕ) (q : Request) (m l : List ℕ) (g : Good (length m) pdir l
       → (held l′ ≡ keep (unpack e) (held l)) × Buffer l′ → at ≡ f * 4096 + cut (q .size) (q .addr) % 4096 → Refills pdir q m l (At at) m′ l′
   refill-mapped e d k h a = record { same = rw (h .0, k, a) (rw d at refill-by); buffer = h .1 }
 
-  pub refill-faulted : {c : ℕ} → r ≡ Faulted c → Refills pdir q m l (denied c q) m′ l
-  refill-faulted e = record { same = rw e at refill-by; buffer = g .buffer }
+  pub refill-faulted : {c : ℕ} {a : Answer} → r ≡ Faulted c → a ≡ denied c q → Refills pdir q m l a m′ l
+  refill-faulted e d = record { same = rw d (rw e at refill-by); buffer = g .buffer }
 
 -- ---- a hit, and a miss
 
@@ -95,7 +96,8 @@ module _ {paging : Bool} (pdir : ℕ) (q : Request) (m l : List ℕ) (g : Good (
         slot-frame l i (q .addr / 4096) (q .kind) (q .user) (length m) (g .buffer) (g .entries) (sym p ∙ e) in
         record { same = rw (on, page-is (q .addr) small, s, a); good = g }
 
-    pub translate-miss : {a : Answer} {m′ l′ : List ℕ} → h ≡ Miss → i ≡ indexOf (q .addr / 4096) (held l) → Refills pdir q m l a m′ l′ → Translates paging pdir q m l a m′ l′
+    pub translate-miss : {a : Answer} {m′ l′ : List ℕ} → h ≡ Miss → i ≡ indexOf (q .addr / 4096) (held l) → Refills pdir q m l a m′ l′
+        → Translates paging pdir q m l a m′ l′
     unfolding translateBy paged
     translate-miss e j t =
         let s : hit (q .addr / 4096) (q .kind) (q .user) (held l) ≡ none =
@@ -108,9 +110,9 @@ module _ {paging : Bool} (pdir : ℕ) (q : Request) (m l : List ℕ) (g : Good (
   unfolding translateBy direct
   translate-at off h e = record { same = rw (off, lt-ltb _ _ h, e); good = g }
 
-  pub translate-beyond : paging ≡ false → length m ≤ q .addr → Translates paging pdir q m l (denied 0 q) m l
+  pub translate-beyond : {a : Answer} → paging ≡ false → length m ≤ q .addr → a ≡ denied FMEM q → Translates paging pdir q m l a m l
   unfolding translateBy direct
-  translate-beyond off h = record { same = rw (off, le-ltb _ _ h); good = g }
+  translate-beyond off h d = record { same = rw (off, le-ltb _ _ h, d); good = g }
 
 -- ---- an aligned address
 

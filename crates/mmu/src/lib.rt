@@ -4,6 +4,7 @@ ghost use Prim.Native.Nat.{_+_, _*_, _/_, _%_, _<_};
 ghost use lib.ListN.{length};
 ghost use Rattle.word.specs.Word.{cut};
 ghost use Rattle.memory.specs.Memory.{bytes};
+ghost use Rattle.paging.specs.declared.Answer.the-variants.{Denied};
 ghost use Rattle.mmu.specs.Good.{Good};
 ghost use Rattle.mmu.specs.State.{request, Refills, Translates};
 use buffer::Hit;
@@ -31,6 +32,16 @@ fn in_frame(frame: u32, addr: u32, size: Size) -> usize
     frame as usize * 4096 + (align(addr, size) % 4096) as usize
 }
 
+// A fault, with the address asked.
+fn denied(code: u32, addr: u32) -> Answer
+    ensures { λ r. ⌜ r ≡ Denied (record { code = code; address = addr }) ⌝ }
+{
+    Answer::Denied(Fault {
+        code,
+        address: addr,
+    })
+}
+
 // A page table walk, whose entry is kept.
 fn refill(
     mem: &mut [u8],
@@ -55,10 +66,7 @@ fn refill(
             buffer::keep(tlb, buffer::pack(page, frame, u, w));
             Answer::At(in_frame(frame, addr, size))
         }
-        PageWalk::Faulted(code) => Answer::Denied(Fault {
-            code,
-            address: addr,
-        }),
+        PageWalk::Faulted(code) => denied(code, addr),
     }
 }
 
@@ -81,10 +89,7 @@ fn translate_slow(
         if (addr as usize) < mem.len() {
             return Answer::At(align(addr, size) as usize);
         }
-        return Answer::Denied(Fault {
-            code: walk::FMEM,
-            address: addr,
-        });
+        return denied(walk::FMEM, addr);
     }
     let page = addr / 4096;
     let i = buffer::lookup(tlb, page as u64);
@@ -114,8 +119,8 @@ pub fn translate(
 {
     if paging {
         let page = addr / 4096;
-        let i = wide(hint[(page % 256) as usize]);
-        let hit = buffer::slot(tlb, i, page as u64, kind, user);
+        let h = wide(hint[(page % 256) as usize]);
+        let hit = buffer::slot(tlb, h, page as u64, kind, user);
         let Hit::Frame(frame) = hit else {
             return translate_slow(mem, tlb, hint, paging, pdir, addr, size, kind, user);
         };

@@ -2,33 +2,37 @@
 use Prim.Native.Nat.{ℕ, _+_, _-_, _/_, _%_, _<_}
 use native.Mathlib.Nat.{add-zero, mul-one, mul-zero}
 use native.Mathlib.Omega.{arith}
-use mathlib.Core.Bool.{true, false}
+use mathlib.Core.Bool.{Bool, true, false, _||_}
 use mathlib.Core.Path.{_≡_, refl, sym, _∙_}
 use mathlib.Core.List.{List}
 use mathlib.Core.Logic.{_⊎_, inl, inr, ⊎-elim}
 use lib.ListN.{length, getD, set, length-set}
 use lib.Seq.{set-getD}
+use lib.Dec.{eqb}
+use borrow.Author.Tests.{eqb-true}
 use Rattle.paging.specs.declared.Access.{Access}
 use Rattle.paging.specs.declared.Access.the-variants.{Fetch, Read, Write}
 use Rattle.paging.specs.Walk.{isWrite, setBit, mark, markFor}
+use Rattle.walk.specs.Found.{isMark}
 
 -- ---- the values of A and D
 
-pub accessed : _≡_ {A = ℕ} 32 32 ⊎ _≡_ {A = ℕ} 32 64
-accessed = inl refl
+mark-value : (k : ℕ) → isMark k ≡ true → (k ≡ 32) ⊎ (k ≡ 64)
+mark-value k h = go (eqb k 32) refl h
+  where
+    go : (b : Bool) → eqb k 32 ≡ b → b || eqb k 64 ≡ true → (k ≡ 32) ⊎ (k ≡ 64)
+    go true e q = inl (eqb-true _ _ e)
+    go false e q = inr (eqb-true _ _ q)
 
-pub dirty : _≡_ {A = ℕ} 64 32 ⊎ _≡_ {A = ℕ} 64 64
-dirty = inr refl
-
-module _ (k : ℕ) (h : (k ≡ 32) ⊎ (k ≡ 64)) where
+module _ (k : ℕ) (h : isMark k ≡ true) where
   pub mark-positive : 0 < k
-  mark-positive = ⊎-elim (λ e. omega arith) (λ e. omega arith) h
+  mark-positive = ⊎-elim (λ e. omega arith) (λ e. omega arith) (mark-value k h)
 
   -- a byte without the mark has room for it
   pub mark-fits : (w : ℕ) → w < 256 → w / k % 2 ≡ 0 → w + k < 256
   mark-fits w b z =
       ⊎-elim (λ (e : k ≡ 32). let z′ : w / 32 % 2 ≡ 0 = rw e at z in omega arith)
-      (λ (e : k ≡ 64). let z′ : w / 64 % 2 ≡ 0 = rw e at z in omega arith) h
+      (λ (e : k ≡ 64). let z′ : w / 64 % 2 ≡ 0 = rw e at z in omega arith) (mark-value k h)
 
 -- ---- a byte set anew, or left
 

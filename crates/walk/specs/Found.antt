@@ -1,10 +1,10 @@
 -- Document 01, "Addresses": what the code of the page table walk answers, against the rules' finding.
 use Prim.Native.Nat.{ℕ}
-use mathlib.Core.Bool.{Bool}
+use mathlib.Core.Bool.{Bool, _||_}
 use mathlib.Core.Path.{_≡_}
 use mathlib.Core.List.{List}
 use lib.ListN.{length}
-use lib.Dec.{ltb}
+use lib.Dec.{ltb, eqb}
 use Rattle.word.specs.Word.{cut}
 use Rattle.memory.specs.Memory.{loadN}
 use Rattle.paging.specs.declared.Access.{Access}
@@ -13,6 +13,10 @@ use Rattle.paging.specs.Walk as Walk
 use Rattle.paging.specs.Walk.{Found, fault, found, allows, walkFrame, walkTable}
 use Rattle.walk.specs.declared.PageWalk.{PageWalk}
 use Rattle.walk.specs.declared.PageWalk.the-variants.{Mapped, Faulted}
+
+-- the value of a mark: A or D
+abbrev pub isMark : ℕ → Bool
+isMark k = eqb k 32 || eqb k 64
 
 -- a finding without the addresses of the words read
 unfoldable pub foundBy : Found → PageWalk

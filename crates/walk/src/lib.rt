@@ -1,12 +1,12 @@
 // Document 01, "Addresses": the page table walk.
 ghost use mathlib.Core.Path.{_≡_};
-ghost use mathlib.Core.Logic.{_⊎_};
+ghost use mathlib.Core.Bool.{true};
 ghost use Prim.Native.Nat.{_+_, _<_, _≤_};
 ghost use lib.ListN.{length};
 ghost use Rattle.paging.specs.TrapCode.{pageFault};
 ghost use Rattle.paging.specs.Walk.{isWrite, bit, mark, markFor, userOk, writeOk, allows, walk};
 ghost use Rattle.walk.specs.Directory.{Directory};
-ghost use Rattle.walk.specs.Found.{walked, walkedBy, FrameWalk, TableWalk};
+ghost use Rattle.walk.specs.Found.{isMark, walked, walkedBy, FrameWalk, TableWalk};
 use paging::Access;
 
 // Bad physical address.
@@ -52,7 +52,7 @@ fn bit(k: u32, w: u32) -> bool
 
 // Sets the bit of value k, A or D, in the low byte of the word at `at`.
 fn mark(mem: &mut [u8], at: usize, k: u8)
-    requires { ⌜ (at < length (now mem)) × ((k ≡ 32) ⊎ (k ≡ 64)) ⌝ }
+    requires { ⌜ (at < length (now mem)) × (isMark k ≡ true) ⌝ }
     ensures { λ _. ⌜ now (mem .exit) ≡ mark k (now (mem .entry)) at ⌝ }
 {
     let w = mem[at];
@@ -129,13 +129,13 @@ pub fn walk(mem: &mut [u8], pdir: u32, page: u32, kind: Access, user: bool) -> P
     requires { ⌜ Directory (length (now mem)) pdir × (page < 1048576) ⌝ }
     ensures { λ r. ⌜ walked r (now (mem .exit)) ≡ walkedBy (walk (now (mem .entry)) pdir page kind user) ⌝ }
 {
-    let at = (pdir + 4 * (page / 1024)) as usize;
-    let dir = memory::load4(mem, at);
+    let dir_at = (pdir + 4 * (page / 1024)) as usize;
+    let dir = memory::load4(mem, dir_at);
     let present = bit(1, dir);
     if !present {
         return PageWalk::Faulted(page_fault(kind));
     }
-    mark(mem, at, 32);
+    mark(mem, dir_at, 32);
     let table = dir / 4096 * 4096;
     if table as usize >= mem.len() {
         return PageWalk::Faulted(FMEM);

@@ -9,8 +9,8 @@ use Rattle.buffer.proofs.keep.Tie as tie
 lookup-requires : tie.Need-lookup-requires
 lookup-requires c κs = search needs
 
-slice-read-n : tie.Need-slice-read-n
-slice-read-n c = search needs
+count-requires : tie.Need-count-requires
+count-requires c κs = search needs
 
 mul-tlb : tie.Need-mul-tlb
 mul-tlb c = search needs
@@ -40,30 +40,30 @@ same-length : tie.Need-same-length
 same-length c = search needs
 
 returns : tie.Need-returns
-returns c = keep-same _ _ (c .before .before .before .before .before .pre) (c .before .before .lookup .ensures) (c .if1 .taken)
+returns c = keep-same _ _ (c .before .before .before .before .before .before .pre) (c .before .before .before .lookup .ensures) (omega arith)
 
 same-length-2 : tie.Need-same-length-2
 same-length-2 c = search needs
 
 returns-2 : tie.Need-returns-2
 returns-2 c =
-    keep-first _ _ (c .before .before .before .before .before .before .pre) (c .before .before .before .lookup .ensures)
-    (c .before .if1 .left) (c .if2 .taken)
+    keep-first _ _ (c .before .before .before .before .before .before .before .pre) (c .before .before .before .before .lookup .ensures)
+    (omega arith) (omega arith)
 
 same-length-3 : tie.Need-same-length-3
 same-length-3 c = search needs
 
 returns-3 : tie.Need-returns-3
 returns-3 c =
-    keep-next _ _ (c .before .before .before .before .before .before .pre) (c .before .before .before .lookup .ensures)
-    (c .before .if1 .left) (c .if2 .left)
+    keep-next _ _ (c .before .before .before .before .before .before .before .pre) (c .before .before .before .before .lookup .ensures)
+    (omega arith) (c .before .before .count .ensures) (omega arith)
 
 pub keep-spec : {M : Type 1} → statement M
 keep-spec =
     tie.close
     (tie.spec
     lookup-requires
-    slice-read-n
+    count-requires
     mul-tlb
     slice-write-tlb
     slice-write-tlb-2

@@ -15,7 +15,7 @@ cast-result : tie.Need-cast-result
 cast-result c = search needs
 
 mul-result-3 : tie.Need-mul-result-3
-mul-result-3 c = omega (arith, bool-le (c .args .user))
+mul-result-3 c = omega (arith, bool-le (c .args .user), bool-le (c .args .write))
 
 cast-result-2 : tie.Need-cast-result-2
 cast-result-2 c = search needs

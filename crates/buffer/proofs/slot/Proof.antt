@@ -1,14 +1,15 @@
 -- `buffer::slot` meets its contract. Assumes nothing.
+use native.Mathlib.Omega.{arith}
 use borrow.Author.Needs.{needs}
 use Rattle.buffer.proofs.Hits.{slot-past, slot-serves, slot-refuses}
 use Rattle.buffer.proofs.slot.Statement.{statement}
 use Rattle.buffer.proofs.slot.Tie as tie
 
-shared-slice-read-if1 : tie.Need-shared-slice-read-if1
-shared-slice-read-if1 c = search needs
+count-requires : tie.Need-count-requires
+count-requires c κs = search needs
 
 returns : tie.Need-returns
-returns c = slot-past _ _ _ _ _ (c .if1 .taken)
+returns c = slot-past (c .before .before .before .args .tlb .now) (c .before .before .before .args .i) _ _ _ (omega arith)
 
 mul-e : tie.Need-mul-e
 mul-e c = search needs
@@ -19,24 +20,28 @@ shared-slice-read-e c = search needs
 serves-requires : tie.Need-serves-requires
 serves-requires c κs = search needs
 
-cast-t17 : tie.Need-cast-t17
-cast-t17 c = search needs
+cast-t16 : tie.Need-cast-t16
+cast-t16 c = search needs
 
 returns-2 : tie.Need-returns-2
-returns-2 c = slot-serves _ _ _ _ _ (c .before .before .before .if1 .left) (c .before .serves .ensures) (c .if2 .taken)
+returns-2 c =
+    slot-serves (c .before .before .before .before .before .before .args .tlb .now)
+    (c .before .before .before .before .before .before .args .i) _ _ _ (omega arith) (c .before .serves .ensures) (c .if2 .taken)
 
 returns-3 : tie.Need-returns-3
-returns-3 c = slot-refuses _ _ _ _ _ (c .before .before .before .if1 .left) (c .before .serves .ensures) (c .if2 .left)
+returns-3 c =
+    slot-refuses (c .before .before .before .before .before .before .args .tlb .now)
+    (c .before .before .before .before .before .before .args .i) _ _ _ (omega arith) (c .before .serves .ensures) (c .if2 .left)
 
 pub slot-spec : {M : Type 1} → statement M
 slot-spec =
     tie.close
     (tie.spec
-    shared-slice-read-if1
+    count-requires
     returns
     mul-e
     shared-slice-read-e
     serves-requires
-    cast-t17
+    cast-t16
     returns-2
     returns-3)

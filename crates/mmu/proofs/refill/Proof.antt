@@ -25,6 +25,9 @@ in-frame-requires c κs = search needs
 enum-known-found-2 : tie.Need-enum-known-found-2
 enum-known-found-2 c = search needs
 
+denied-requires : tie.Need-denied-requires
+denied-requires c κs = search needs
+
 same-length : tie.Need-same-length
 same-length c = search needs
 
@@ -44,8 +47,8 @@ same-length-3 c = search needs
 
 returns-2 : tie.Need-returns-2
 returns-2 c =
-    refill-faulted _ _ _ _ (c .before .before .before .before .before .before .before .before .before .pre) (omega arith)
-    (c .before .before .before .before .before .walk .ensures) (c .before .found2 .given .1)
+    refill-faulted _ _ _ _ (c .before .before .before .before .before .before .before .before .before .before .pre) (omega arith)
+    (c .before .before .before .before .before .before .walk .ensures) (c .before .before .found2 .given .1) (c .denied .ensures)
 
 pub refill-spec : {M : Type 1} → statement M
 refill-spec =
@@ -57,6 +60,7 @@ refill-spec =
     keep-requires
     in-frame-requires
     enum-known-found-2
+    denied-requires
     same-length
     same-length-2
     returns

@@ -17,8 +17,13 @@ returns c =
     translate-at _ _ _ _ (c .before .before .before .before .before .pre) (not-true _ (c .before .before .if1 .taken))
     (c .before .if2 .taken) (c .align .ensures)
 
+denied-requires : tie.Need-denied-requires
+denied-requires c κs = search needs
+
 returns-2 : tie.Need-returns-2
-returns-2 c = translate-beyond _ _ _ _ (c .before .before .before .before .pre) (not-true _ (c .before .if1 .taken)) (c .if2 .left)
+returns-2 c =
+    translate-beyond _ _ _ _ (c .before .before .before .before .before .pre) (not-true _ (c .before .before .if1 .taken))
+    (c .before .if2 .left) (c .denied .ensures)
 
 cast-lookup : tie.Need-cast-lookup
 cast-lookup c = search needs
@@ -86,6 +91,7 @@ translate-slow-spec =
     align-requires
     cast-t19
     returns
+    denied-requires
     returns-2
     cast-lookup
     lookup-requires

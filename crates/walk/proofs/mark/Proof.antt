@@ -14,7 +14,11 @@ div-if1 c = mark-positive _ (c .before .pre .1)
 
 add-mem : tie.Need-add-mem
 add-mem c =
-    omega (arith, mark-fits (c .before .before .args .k) (c .before .before .pre .1) (getD (c .before .before .args .mem .now) (c .before .before .args .at) 0) (omega (arith, c .before .slice-known .given (c .before .before .args .at))) (c .if1 .taken))
+    omega (
+      arith,
+      mark-fits (c .before .before .args .k) (c .before .before .pre .1) (getD (c .before .before .args .mem .now)
+          (c .before .before .args .at) 0) (omega (arith, c .before .slice-known .given (c .before .before .args .at))) (c .if1 .taken),
+    )
 
 slice-write-mem : tie.Need-slice-write-mem
 slice-write-mem c = search needs

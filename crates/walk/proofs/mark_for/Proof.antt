@@ -1,18 +1,18 @@
 -- `walk::mark_for` meets its contract. Assumes nothing.
-use mathlib.Core.Path.{sym, _∙_}
+use mathlib.Core.Path.{refl, sym, _∙_}
 use borrow.Author.Needs.{needs}
-use Rattle.walk.proofs.Marks.{accessed, dirty, mark-read, mark-write}
+use Rattle.walk.proofs.Marks.{mark-read, mark-write}
 use Rattle.walk.proofs.mark_for.Statement.{statement}
 use Rattle.walk.proofs.mark_for.Tie as tie
 
 mark-requires : tie.Need-mark-requires
-mark-requires c κs = (search needs, accessed)
+mark-requires c κs = (search needs, refl)
 
 writes-requires : tie.Need-writes-requires
 writes-requires c κs = search needs
 
 mark-requires-2 : tie.Need-mark-requires-2
-mark-requires-2 c κs = (search needs, dirty)
+mark-requires-2 c κs = (search needs, refl)
 
 same-length : tie.Need-same-length
 same-length c = search needs

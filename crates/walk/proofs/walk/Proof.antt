@@ -1,19 +1,20 @@
 -- `walk::walk` meets its contract. Assumes nothing.
+use native.Mathlib.Omega.{arith}
+use mathlib.Core.Path.{refl}
 use borrow.Author.Needs.{needs}
 use borrow.Author.Tests.{not-true, not-false}
-use Rattle.walk.proofs.Marks.{accessed}
 use Rattle.walk.proofs.Stages.{dir-absent, dir-beyond, dir-present}
 use Rattle.walk.proofs.walk.Statement.{statement}
 use Rattle.walk.proofs.walk.Tie as tie
 
-mul-at : tie.Need-mul-at
-mul-at c = search needs
+mul-dir-at : tie.Need-mul-dir-at
+mul-dir-at c = search needs
 
-add-at : tie.Need-add-at
-add-at c = search needs
+add-dir-at : tie.Need-add-dir-at
+add-dir-at c = search needs
 
-cast-at : tie.Need-cast-at
-cast-at c = search needs
+cast-dir-at : tie.Need-cast-dir-at
+cast-dir-at c = search needs
 
 load4-requires : tie.Need-load4-requires
 load4-requires c κs = search needs
@@ -33,7 +34,7 @@ returns c =
     (c .page-fault .ensures)
 
 mark-requires : tie.Need-mark-requires
-mark-requires c κs = (search needs, accessed)
+mark-requires c κs = (search needs, refl)
 
 mul-table : tie.Need-mul-table
 mul-table c = search needs
@@ -48,7 +49,7 @@ returns-2 : tie.Need-returns-2
 returns-2 c =
     dir-beyond _ _ _ _ _ (c .before .before .before .before .before .before .before .load4 .ensures)
     (c .before .before .before .before .before .before .bit .ensures) (not-false _ (c .before .before .before .before .before .if1 .left))
-    (c .before .before .before .mark .ensures) (c .if2 .taken)
+    (c .before .before .before .mark .ensures) (omega arith)
 
 mul-walk-table : tie.Need-mul-walk-table
 mul-walk-table c = search needs
@@ -70,16 +71,15 @@ returns-3 c =
     dir-present _ _ _ _ _ (c .before .before .before .before .before .before .before .before .before .before .before .load4 .ensures)
     (c .before .before .before .before .before .before .before .before .before .before .bit .ensures)
     (not-false _ (c .before .before .before .before .before .before .before .before .before .if1 .left))
-    (c .before .before .before .before .before .before .before .mark .ensures) (c .before .before .before .before .if2 .left)
-    (c .before .before .walk-table .ensures)
+    (c .before .before .before .before .before .before .before .mark .ensures) (omega arith) (c .before .before .walk-table .ensures)
 
 pub walk-spec : {M : Type 1} → statement M
 walk-spec =
     tie.close
     (tie.spec
-    mul-at
-    add-at
-    cast-at
+    mul-dir-at
+    add-dir-at
+    cast-dir-at
     load4-requires
     bit-requires
     page-fault-requires

@@ -1,4 +1,5 @@
 -- `walk::walk_frame` meets its contract. Assumes nothing.
+use native.Mathlib.Omega.{arith}
 use borrow.Author.Needs.{needs}
 use Rattle.walk.proofs.Stages.{frame-beyond, frame-mapped}
 use Rattle.walk.proofs.walk_frame.Statement.{statement}
@@ -11,7 +12,9 @@ cast-if1 : tie.Need-cast-if1
 cast-if1 c = search needs
 
 returns : tie.Need-returns
-returns c = frame-beyond _ _ _ _ (c .if1 .taken)
+returns c =
+    frame-beyond (c .before .before .args .mem .now) (c .before .before .args .dir) (c .before .before .args .table)
+    (c .before .before .args .at) (omega arith)
 
 load4-requires : tie.Need-load4-requires
 load4-requires c κs = search needs
@@ -33,7 +36,10 @@ bit-requires-5 c κs = search needs
 
 returns-2 : tie.Need-returns-2
 returns-2 c =
-    frame-mapped _ _ _ _ (c .before .before .before .before .before .before .if1 .left)
+    frame-mapped (c .before .before .before .before .before .before .before .before .args .mem .now)
+    (c .before .before .before .before .before .before .before .before .args .dir)
+    (c .before .before .before .before .before .before .before .before .args .table)
+    (c .before .before .before .before .before .before .before .before .args .at) (omega arith)
     (c .before .before .before .before .before .load4 .ensures) (cc) (cc)
 
 pub walk-frame-spec : {M : Type 1} → statement M

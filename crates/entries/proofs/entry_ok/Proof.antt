@@ -1,0 +1,16 @@
+-- `entries::entry_ok` meets its contract. Assumes nothing.
+use mathlib.Core.Path.{refl}
+use borrow.Author.Needs.{needs}
+use Rattle.paging.specs.Buffer.{entryOk}
+use Rattle.entries.proofs.entry_ok.Statement.{statement}
+use Rattle.entries.proofs.entry_ok.Tie as tie
+
+cast-result : tie.Need-cast-result
+cast-result c = search needs
+
+returns : tie.Need-returns
+unfolding entryOk
+returns c = refl
+
+pub entry-ok-spec : {M : Type 1} → statement M
+entry-ok-spec = tie.close (tie.spec cast-result returns)

@@ -1,0 +1,60 @@
+-- `entries::has_page` meets its contract. Assumes nothing.
+use Prim.Native.Nat.{_-_}
+use mathlib.Core.Path.{_≡_, refl, sym}
+use lib.ListN.{drop}
+use borrow.Author.Needs.{needs}
+use Rattle.paging.specs.Buffer.{has, entryPage}
+use Rattle.entries.proofs.Turns.{page-here, page-next, page-nowhere}
+use Rattle.entries.specs.Counted.{counted}
+use Rattle.entries.proofs.has_page.Statement.{statement}
+use Rattle.entries.proofs.has_page.Tie as tie
+
+abbrev Inv-loop : tie.InvT-loop
+Inv-loop n from page entries i₀ i = has entryPage page (drop from (counted n entries)) ≡ has entryPage page (drop i (counted n entries))
+
+abbrev μ-loop : tie.MeasureT-loop
+μ-loop n from page entries i₀ i = n - i
+
+loop-holds : tie.Need-loop-holds Inv-loop μ-loop
+loop-holds c = refl
+
+mul-e : tie.Need-mul-e Inv-loop μ-loop
+mul-e c = search needs
+
+array-copy-out-e : tie.Need-array-copy-out-e Inv-loop μ-loop
+array-copy-out-e c = search needs
+
+returns : tie.Need-returns Inv-loop μ-loop
+returns c =
+    sym
+    (page-here _ _ (c .before .before .before .before .before .good .0 .1 .0 .1) (c .before .before .before .before .before .pre) _ _
+    (c .before .before .before .before .loop .inv) (c .before .before .before .loop-test .taken) (c .if1 .taken))
+
+add-i : tie.Need-add-i Inv-loop μ-loop
+add-i c = search needs
+
+loop-less : tie.Need-loop-less Inv-loop μ-loop
+loop-less c = search needs
+
+loop-again : tie.Need-loop-again Inv-loop μ-loop
+loop-again c =
+    page-next _ _ (c .before .before .before .before .before .good .0 .1 .0 .1) (c .before .before .before .before .before .pre) _ _
+    (c .before .before .before .before .loop .inv) (c .before .before .before .loop-test .taken) (c .if1 .left)
+
+returns-2 : tie.Need-returns-2 Inv-loop μ-loop
+returns-2 c = sym (page-nowhere _ _ (c .before .before .good .0 .1 .0 .1) (c .before .before .pre) _ _ (c .before .loop .inv) (c .loop-test .left))
+
+pub has-page-spec : {M : Type 1} → statement M
+has-page-spec =
+    tie.close
+    (tie.spec
+    Inv-loop
+    μ-loop
+    loop-holds
+    mul-e
+    array-copy-out-e
+    returns
+    add-i
+    loop-less
+    loop-again
+    returns-2)

@@ -1,0 +1,4 @@
+pub mod Left
+pub mod Loop
+pub mod Entries
+pub mod Whole

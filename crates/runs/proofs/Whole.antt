@@ -1,0 +1,91 @@
+-- Document 01, "Numbers returned": a run goes on by one key, from what its parts ensure.
+use Prim.Native.Nat.{ℕ, _+_, _-_, _≤_, _<_}
+use native.Mathlib.Omega.{arith}
+use mathlib.Core.Bool.{Bool}
+use mathlib.Core.Path.{_≡_, refl, sym, _∙_, ap, subst}
+use mathlib.Core.List.{List}
+use lib.ListN.{length, take}
+use Rattle.paging.specs.declared.Entry.{Entry}
+use Rattle.paging.specs.Buffer.{bufferOk}
+use Rattle.buffer.specs.Held.{count, held, Buffer}
+use Rattle.mmu.specs.Good.{Good}
+use Rattle.clock.specs.Due.{KeyFits}
+use Rattle.rules.specs.declared.Cpu.{Cpu}
+use Rattle.rules.specs.declared.Key.{Key}
+use Rattle.rules.specs.declared.Next.{Next}
+use Rattle.rules.specs.declared.Machine.{Machine}
+use Rattle.rules.specs.declared.RunAnswer.{RunAnswer}
+use Rattle.rules.specs.Clock.{nextOf}
+use Rattle.rules.specs.Run.{allowance}
+use Rattle.outcome.specs.Contract.{stateOf}
+use Rattle.machine.specs.declared.Going.{Going as Advanced}
+use Rattle.machine.specs.Advance.{Ready}
+use Rattle.refusals.specs.Refusal.{refusalOf}
+use Rattle.refusals.specs.View.{firstSlots, entriesOf, viewOf}
+use Rattle.runs.specs.declared.Going.{Going}
+use Rattle.runs.specs.declared.Ran.{Ran}
+use Rattle.runs.specs.Advance.{Fits, Goes, endOf, leftOf}
+use Rattle.runs.specs.Going.{Able, Proceeds, beginOf}
+use Rattle.runs.proofs.Entries.{unpacked-first}
+
+module _ {g : Going} {size : ℕ} (b : Able g size) where
+  pub able-fits : Fits (entriesOf (g .ran .machine))
+  able-fits = record { size = size; small = b .directory .small; passes = b .entries }
+
+  pub able-key : {key : Bool} → KeyFits key (g .taken) → KeyFits key (g .ran .machine .cpu .clock .taken)
+  able-key {key} f = subst (λ (i : ℕ). KeyFits key i) (b .taken) f
+
+module _ {g : Going} {m : List ℕ} (b : Able g (length m)) {l : List ℕ} (h : held l ≡ entriesOf (g .ran .machine)) (u : Buffer l) where
+  pub able-ready : Ready (g .ran .machine .cpu) (g .left) m l
+  able-ready = record {
+    good = record { directory = b .directory; buffer = u; entries = ap (bufferOk (length m)) h ∙ b .entries };
+    running = b .running;
+    some = b .some;
+    count = b .count;
+  }
+
+  module _ {k : Next} {con m′ con′ l′ : List ℕ} {a : Advanced} (t : Goes (g .ran .machine .cpu) (g .left) k m con l a m′ con′ l′) where
+    pub counts-rise : g .ran .machine .cpu .regs .count ≤ a .cpu .regs .count
+    counts-rise = omega (arith, t .later)
+
+    module _ (es : List Entry) (e : take (count l′) es ≡ held l′) where
+      first : firstSlots (count l′) es ≡ held l′
+      first = unpacked-first l′ es (t .good .buffer) e
+
+      abbrev on : Going
+      on = record {
+        taken = a .cpu .clock .taken;
+        left = a .left;
+        ran = record {
+          machine = record { cpu = a .cpu; entries = es; held = count l′ };
+          answer = g .ran .answer;
+          steps = g .ran .steps + (a .cpu .regs .count - g .ran .machine .cpu .regs .count);
+        };
+      }
+
+      pub proceeds : Proceeds g k m con on m′ con′
+      proceeds = record {
+        able = λ s. record {
+          directory = t .good .directory;
+          entries = ap (bufferOk (length m′)) first ∙ t .good .entries;
+          running = t .running s;
+          taken = refl;
+          some = s;
+          count = omega (arith, t .count, b .count);
+          steps = omega (arith, t .later, b .steps);
+        };
+        less = t .less;
+        answer = refl;
+        steps = omega (arith, t .later);
+        more = omega (arith, t .later);
+        same = λ ks z. ap (λ (xs : List Entry). endOf ks (g .left) (record { cpu = g .ran .machine .cpu; mem = m; console = con; buffer = xs })) (sym h)
+            ∙ t .same ks (ap (nextOf ks) (sym (b .taken)) ∙ z)
+            ∙ ap (λ (xs : List Entry). endOf ks (a .left) (record { cpu = a .cpu; mem = m′; console = con′; buffer = xs })) (sym first);
+      }
+
+-- how a run begins
+pub begins : (m : Machine) (size room : ℕ) (rising : Bool) (keys budget : ℕ) {a : RunAnswer} {n i : ℕ} → a ≡ refusalOf m size room rising keys budget
+    → n ≡ allowance a budget → i ≡ leftOf (m .cpu .stop) n
+    → record { taken = m .cpu .clock .taken; left = i; ran = record { machine = m; answer = a; steps = 0 } } ≡ beginOf m size room rising keys budget
+unfolding beginOf
+begins m size room rising keys budget p q r = rw (r, q, p)

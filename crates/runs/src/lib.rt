@@ -1,0 +1,135 @@
+// Document 01, "Numbers returned": a run begins, refused or accepted, and goes on from key to key.
+ghost use mathlib.Core.Path.{_≡_};
+ghost use lib.ListN.{length};
+ghost use Rattle.buffer.specs.Held.{slots, held, Buffer};
+ghost use Rattle.clock.specs.Due.{KeyFits};
+ghost use Rattle.machine.specs.Advance.{Ready};
+ghost use Rattle.rules.specs.Run.{allowance};
+ghost use Rattle.refusals.specs.View.{firstSlots};
+ghost use Rattle.runs.specs.Advance.{leftOf, Fits, Goes};
+ghost use Rattle.runs.specs.Going.{beginOf, Able, Proceeds};
+use machine::Going as Advanced;
+use paging::Entry;
+use rules::Cpu;
+use rules::Machine;
+use rules::Next;
+use rules::RunAnswer;
+use rules::Stop;
+
+// What a run gives: the record, its answer, and the reported steps.
+pub struct Ran {
+    pub machine: Machine,
+    pub answer: RunAnswer,
+    pub steps: u64,
+}
+
+// A run under way: the keys taken, the steps that are left, 0 once the machine has stopped, and its result so far.
+pub struct Going {
+    pub taken: usize,
+    pub left: u64,
+    pub ran: Ran,
+}
+
+// The steps that are left, none once the machine has stopped.
+fn left_of(s: Stop, n: u64) -> u64
+    ensures { λ r. ⌜ r ≡ leftOf s n ⌝ }
+{
+    if refusals::is_running(s) {
+        return n;
+    }
+    0
+}
+
+// The budget of a run that is accepted, and 0 of one that is refused.
+fn allowance(a: RunAnswer, budget: u64) -> u64
+    ensures { λ r. ⌜ r ≡ allowance a budget ⌝ }
+{
+    if refusals::is_accepted(a) {
+        return budget;
+    }
+    0
+}
+
+// A run is refused, or begins.
+pub fn begin(m: Machine, size: usize, room: usize, rising: bool, keys: usize, budget: u64) -> Going
+    ensures { λ g. ⌜ g ≡ beginOf m size room rising keys budget ⌝ }
+{
+    let answer = refusals::refusal(m, size, room, rising, keys, budget);
+    let c = m.cpu;
+    let stop = c.stop;
+    let left = left_of(stop, allowance(answer, budget));
+    let taken = c.clock.taken;
+    let ran = Ran {
+        machine: m,
+        answer,
+        steps: 0,
+    };
+    Going { taken, left, ran }
+}
+
+// The counted entries of a record, into the lent array.
+fn hold(entries: [Entry; 64], n: usize, tlb: &mut [u64])
+    requires { ⌜ Fits (firstSlots n entries) × (length (now tlb) ≡ slots) ⌝ }
+    ensures { λ _. ⌜ (held (now (tlb .exit)) ≡ firstSlots n entries) × Buffer (now (tlb .exit)) ⌝ }
+{
+    entries::pack_entries(entries, n, tlb);
+}
+
+// Steps until the next key is taken, or to the end of the run.
+fn go(
+    c: Cpu,
+    left: u64,
+    next: Next,
+    mem: &mut [u8],
+    console: &mut [u8],
+    tlb: &mut [u64],
+    hint: &mut [u8; 256],
+) -> Advanced
+    requires { ⌜ Ready c left (now mem) (now tlb) × KeyFits (next .some) (c .clock .taken) ⌝ }
+    ensures { λ g. ⌜ Goes c left next (now (mem .entry)) (now (console .entry)) (now (tlb .entry)) g (now (mem .exit)) (now (console .exit)) (now (tlb .exit)) ⌝ }
+{
+    let mut x = c;
+    let mut n = left;
+    while (0 < n) & (x.clock.taken == c.clock.taken) {
+        let a = machine::advance(x, n, next, mem, console, tlb, hint);
+        x = a.cpu;
+        let stop = x.stop;
+        n = left_of(stop, a.left);
+    }
+    Advanced { cpu: x, left: n }
+}
+
+// A run that goes on, until its next key is taken, or to its end.
+pub fn proceed(g: Going, mem: &mut [u8], console: &mut [u8], next: Next) -> Going
+    requires { ⌜ Able g (length (now mem)) × KeyFits (next .some) (g .taken) ⌝ }
+    ensures { λ r. ⌜ Proceeds g next (now (mem .entry)) (now (console .entry)) r (now (mem .exit)) (now (console .exit)) ⌝ }
+{
+    let mut tlb = [0u64; 65];
+    let mut hint = [0u8; 256];
+    let r = g.ran;
+    let m = r.machine;
+    let c = m.cpu;
+    let entries = m.entries;
+    hold(entries, m.held, &mut tlb);
+    let a = go(c, g.left, next, mem, console, &mut tlb, &mut hint);
+    let x = a.cpu;
+    let steps = r.steps + (x.regs.count - c.regs.count);
+    let slots = entries::unpack_entries(&tlb);
+    let held = tlb[64] as usize;
+    let machine = Machine {
+        cpu: x,
+        entries: slots,
+        held,
+    };
+    let answer = r.answer;
+    let ran = Ran {
+        machine,
+        answer,
+        steps,
+    };
+    Going {
+        taken: x.clock.taken,
+        left: a.left,
+        ran,
+    }
+}

@@ -1,0 +1,4 @@
+pub mod Accepted
+pub mod UnderWay
+pub mod Packed
+pub mod Again
