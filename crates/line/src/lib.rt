@@ -4,6 +4,7 @@ ghost use Prim.Native.Nat.{_+_, _≤_};
 ghost use lib.ListN.{length};
 ghost use Rattle.rules.specs.Record.{stopNumber};
 ghost use Rattle.line.specs.Line.{refusedLine, stopLine, Shows};
+ghost use Rattle.line.specs.Program.{lineOf};
 ghost use Rattle.line.specs.Room.{Named};
 use rules::Regs;
 use rules::Stop;
@@ -49,4 +50,24 @@ pub fn refused_line(line: &mut [u8], number: u32) -> usize
     ensures { λ n. ⌜ Shows (refusedLine number) (now (line .exit)) n ⌝ }
 {
     named(line, 0, b"refused ", number as u64)
+}
+
+// The line that the run program prints of an executable: loaded, and run with no keys and a budget of 100,000.
+pub fn run_line(file: &[u8], memory: &mut [u8], console: &mut [u8], line: &mut [u8]) -> usize
+    requires { ⌜ 169 ≤ length (now line) ⌝ }
+    ensures { λ r. ⌜ Shows (lineOf (now (file .entry)) (now (memory .entry)) (now (console .entry))) (now (line .exit)) r ⌝ }
+{
+    let loaded = loader::load(file, memory);
+    let answer = loaded.answer;
+    let number = executable::load_number(answer);
+    if number != 0 {
+        return refused_line(line, number);
+    }
+    let m = loaded.machine;
+    let ran = v9::run_packed(m, memory, console, b"", 100_000);
+    let end = ran.machine;
+    let c = end.cpu;
+    let s = c.stop;
+    let g = c.regs;
+    stop_line(line, s, ran.steps, g)
 }

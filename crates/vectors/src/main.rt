@@ -1,5 +1,5 @@
 // reference/FORMAT.md: reads test cases on standard input, and prints what comes of them. Anything malformed ends it.
-mod runs;
+mod lists;
 
 ghost use Prim.Native.Nat.{_≤_};
 ghost use lib.ListN.{length};
@@ -32,7 +32,7 @@ fn read_case(buf: &mut [u8]) -> usize
 // The lines of a case, in `out`.
 fn lines_of(s: &[u8], no: u64, memory: &mut [u8], console: &mut [u8], out: &mut [u8]) -> usize {
     if word(s, 4) == 1 {
-        return runs::run_case(s, no, memory, console, out);
+        return lists::run_case(s, no, memory, console, out);
     }
     cases::load::load_case(s, no, memory, out)
 }

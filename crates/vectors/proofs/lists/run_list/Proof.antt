@@ -3,8 +3,8 @@ use Prim.Native.Nat.{_+_, _-_, _≤_, _<_}
 use lib.ListN.{length}
 use mathlib.Core.Path.{_≡_, refl}
 use borrow.Author.Needs.{needs}
-use Rattle.vectors.proofs.runs.run_list.Statement.{statement}
-use Rattle.vectors.proofs.runs.run_list.Tie as tie
+use Rattle.vectors.proofs.lists.run_list.Statement.{statement}
+use Rattle.vectors.proofs.lists.run_list.Tie as tie
 
 abbrev Inv-loop : tie.InvT-loop
 Inv-loop s from count no' mem₀ con₀ out₀ m₀ at₀ p₀ i₀ mem con out m at p i = (length mem ≡ length mem₀) × (length con ≡ length con₀) × (length out ≡ length out₀)

@@ -2,8 +2,8 @@
 use lib.Seq.{length-take-le}
 use mathlib.Core.Path.{sym}
 use borrow.Author.Needs.{needs}
-use Rattle.vectors.proofs.runs.run_case.Statement.{statement}
-use Rattle.vectors.proofs.runs.run_case.Tie as tie
+use Rattle.vectors.proofs.lists.run_case.Statement.{statement}
+use Rattle.vectors.proofs.lists.run_case.Tie as tie
 
 place-requires : tie.Need-place-requires
 place-requires c κs = search needs
