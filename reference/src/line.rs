@@ -3,9 +3,9 @@
 use crate::load::load;
 use crate::machine::Machine;
 
-const MEMORY: usize = 32_768;
-const CONSOLE: usize = 4_096;
-const BUDGET: u64 = 100_000;
+pub const MEMORY: usize = 32_768;
+pub const CONSOLE: usize = 4_096;
+pub const BUDGET: u64 = 100_000;
 
 /// The line for an executable, without its newline.
 pub fn line(file: &[u8]) -> String {

@@ -9,6 +9,7 @@ use reference::expect::expect;
 use reference::line::line;
 use reference::mistake::Mistake;
 use reference::mutants::Judge;
+use reference::random::executables::random_file;
 use reference::random::scene::{case, Purpose};
 use reference::stored::stored_set;
 use std::io::{self, BufReader, BufWriter, Read, Write};
@@ -24,7 +25,10 @@ const USAGE: &str = "usage:
                                                 both machines over random runs
   reference write-stored                        the stored set, in the same bytes
   reference mutants < cases                     which cases tell planted mistakes apart
-  reference line < executable                   the run program's line";
+  reference line < executable                   the run program's line
+  reference random-file [--seed S] [--number N] random executable N of a seed
+  reference random-files [--seed S] [--first F] [--count N]
+                                                many, each after its length (u32)";
 
 type Done = Result<(), String>;
 
@@ -53,6 +57,8 @@ fn command(words: &[String]) -> Done {
         "write-stored" => write_all(stored_set().into_iter()),
         "mutants" => print_mutants(),
         "line" => print_line(),
+        "random-file" => print_file(seed, option(options, "--number", 0)?),
+        "random-files" => print_files(seed, numbers),
         _ => Err(USAGE.to_string()),
     }
 }
@@ -129,6 +135,20 @@ fn print_line() -> Done {
     io::stdin().lock().read_to_end(&mut file).map_err(text)?;
     println!("{}", line(&file));
     Ok(())
+}
+
+fn print_file(seed: u64, number: u64) -> Done {
+    io::stdout().lock().write_all(&random_file(seed, number)).map_err(text)
+}
+
+fn print_files(seed: u64, numbers: Range<u64>) -> Done {
+    let mut output = BufWriter::new(io::stdout().lock());
+    for number in numbers {
+        let file = random_file(seed, number);
+        output.write_all(&(file.len() as u32).to_le_bytes()).map_err(text)?;
+        output.write_all(&file).map_err(text)?;
+    }
+    output.flush().map_err(text)
 }
 
 fn print_mutants() -> Done {

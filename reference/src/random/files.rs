@@ -8,9 +8,15 @@ use crate::load::executable;
 
 const MEMORY: [usize; 9] = [0, 1, 4095, 4096, 4096, 8192, 8192, 12_288, 16_384];
 
-/// A file to load: most pass, the others are damaged in one or two places.
+/// A file to load into a memory that passes or doesn't.
 pub fn load_case(rng: &mut Rng) -> Load {
     let memory_length = rng.pick(&MEMORY);
+    let file = file_for(rng, memory_length);
+    Load { memory_length, fill: rng.pick(&[0, 0x55, 0xff]), file }
+}
+
+/// A file: most pass, the others are damaged in one or two places.
+pub fn file_for(rng: &mut Rng, memory_length: usize) -> Vec<u8> {
     let body = body(rng, memory_length);
     let data_start = rng.below(body.len() as u32 + 1);
     let entry = if data_start < 4 { 0 } else { 4 * rng.below(data_start / 4) };
@@ -18,7 +24,7 @@ pub fn load_case(rng: &mut Rng) -> Load {
     for _ in 0..rng.pick(&[0, 0, 0, 1, 1, 2]) {
         damage(rng, &mut file, body.len() as u32);
     }
-    Load { memory_length, fill: rng.pick(&[0, 0x55, 0xff]), file }
+    file
 }
 
 fn body(rng: &mut Rng, memory_length: usize) -> Vec<u8> {
@@ -34,7 +40,8 @@ fn body(rng: &mut Rng, memory_length: usize) -> Vec<u8> {
     bytes
 }
 
-fn damage(rng: &mut Rng, file: &mut Vec<u8>, body: u32) {
+/// Damages the header or the end of a file with so many bytes of body.
+pub fn damage(rng: &mut Rng, file: &mut Vec<u8>, body: u32) {
     let word = |value: u32| value.to_le_bytes();
     let header = file.len() >= 16;
     match rng.below(5) {

@@ -16,7 +16,8 @@ pub struct Writer<'a> {
 }
 
 impl Writer<'_> {
-    fn op(&mut self, name: &str, imm: i32) {
+    /// A word with this mnemonic and operand.
+    pub fn op(&mut self, name: &str, imm: i32) {
         self.words.push(instruction(code_of(name), imm as u32));
     }
 
@@ -44,7 +45,7 @@ impl Writer<'_> {
     }
 
     /// Brings a constant into a, b or c (c through a).
-    fn constant(&mut self, reg: Reg, value: u32) {
+    pub fn constant(&mut self, reg: Reg, value: u32) {
         let (low, high) = if reg == Reg::B { ("LBI", "LBHI") } else { ("LI", "LHI") };
         let signed = value as i32;
         if (-0x80_0000..0x80_0000).contains(&signed) {

@@ -64,7 +64,8 @@ fn runs_case(rng: &mut Rng, number: u64, purpose: Purpose) -> Runs {
     case
 }
 
-fn put_program(rng: &mut Rng, space: &Space, memory: &mut [u8], number: u64) {
+/// The program and its trap handler, in the space's frame for them.
+pub fn put_program(rng: &mut Rng, space: &Space, memory: &mut [u8], number: u64) {
     let length = rng.pick(&[6, 20, 60, 200]);
     let mut program = match rng.weighted(&[5, 14, 1]) {
         0 => drill(rng, space, (number as u8).wrapping_mul(37), length),
@@ -86,7 +87,7 @@ fn put_program(rng: &mut Rng, space: &Space, memory: &mut [u8], number: u64) {
 }
 
 /// A few bytes here and there, so that loads find something.
-fn scatter(rng: &mut Rng, memory: &mut [u8]) {
+pub fn scatter(rng: &mut Rng, memory: &mut [u8]) {
     for _ in 0..rng.below(24) {
         let at = rng.below(memory.len() as u32) as usize;
         if memory[at] == 0 {
