@@ -17,7 +17,7 @@ use crate::words;
 /// Where a program sets the machine up, in its page: between the program and
 /// its handler.
 const SETUP: u32 = 0x900;
-/// The longest file; the run program reads about a tenth of it.
+/// No body is longer; the run program reads less than a tenth of that.
 const LONGEST: u32 = 400_000;
 
 /// Executable `number` of the list with this seed.
