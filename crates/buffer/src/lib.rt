@@ -83,12 +83,11 @@ pub fn lookup(tlb: &[u64], page: u64) -> usize
     i
 }
 
-// Keeps an entry: in the place of the same page's, or after the others, or alone where there is no more room.
-pub fn keep(tlb: &mut [u64], e: u64)
-    requires { ⌜ Buffer (now tlb) ⌝ }
+// Keeps an entry whose page was looked up at `i`: in the place of the same page's, or after the others, or alone where there is no more room.
+pub fn keep(tlb: &mut [u64], i: usize, e: u64)
+    requires { ⌜ Buffer (now tlb) × (i ≡ indexOf (e / 131072) (held (now tlb))) ⌝ }
     ensures { λ _. ⌜ (held (now (tlb .exit)) ≡ keep (unpack e) (held (now (tlb .entry)))) × Buffer (now (tlb .exit)) ⌝ }
 {
-    let i = lookup(tlb, e / 131072);
     let n = count(tlb);
     if i < n {
         tlb[i] = e;

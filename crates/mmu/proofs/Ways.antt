@@ -68,6 +68,10 @@ frame-small m pdir page k user {l} {m′} {r} {f} g p e =
     let h : f < length m / 4096 = frame-found (length m) _ (ap (λ (x : Walked). x .answer) (sym p) ∙ e) i in
     omega (arith, g .directory .small)
 
+-- an entry is kept where its page was looked up
+pub kept-at : (es : List Entry) (e : ℕ) {i p f : ℕ} {u w : Bool} → unpack e ≡ entry p f u w → i ≡ indexOf p es → i ≡ indexOf (e / 131072) es
+kept-at es e {i} {p} k h = let s : e / 131072 ≡ p = ap (λ (x : Entry). x .page) k in rw s h
+
 module _ (pdir : ℕ) (q : Request) (m l : List ℕ) (g : Good (length m) pdir l) (small : q .addr < 4294967296)
     {r : PageWalk} {m′ : List ℕ} (p : walked r m′ ≡ walkedBy (walk m pdir (q .addr / 4096) (q .kind) (q .user))) where
   refill-by : state (answerFor q r) m′ (keptFor (q .addr / 4096) (held l) r) ≡ seen (pagedBy none pdir q m (held l))
@@ -114,7 +118,12 @@ module _ {paging : Bool} (pdir : ℕ) (q : Request) (m l : List ℕ) (g : Good (
   unfolding translateBy direct
   translate-beyond off h d = record { same = rw (off, le-ltb _ _ h, d); good = g }
 
--- ---- an aligned address
+-- ---- an answer, and an aligned address
+
+-- the same answer
+pub answered : {paging : Bool} {pdir : ℕ} {q : Request} {m l : List ℕ} {a b : Answer} {m′ l′ : List ℕ} → b ≡ a → Translates paging pdir q m l a m′ l′
+    → Translates paging pdir q m l b m′ l′
+answered e t = rw e t
 
 pub aligned : (a : ℕ) {s s′ : Size} (r : ℕ) → s ≡ s′ → r ≡ cut (bytes s′) a → r ≡ cut (bytes s) a
 aligned a r e h = rw e h

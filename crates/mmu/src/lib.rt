@@ -5,6 +5,7 @@ ghost use lib.ListN.{length};
 ghost use Rattle.word.specs.Word.{cut};
 ghost use Rattle.memory.specs.Memory.{bytes};
 ghost use Rattle.paging.specs.declared.Answer.the-variants.{Denied};
+ghost use Rattle.buffer.specs.Held.{held, indexOf};
 ghost use Rattle.mmu.specs.Good.{Good};
 ghost use Rattle.mmu.specs.State.{request, Refills, Translates};
 use buffer::Hit;
@@ -42,7 +43,7 @@ fn denied(code: u32, addr: u32) -> Answer
     })
 }
 
-// A page table walk, whose entry is kept.
+// A page table walk, whose entry is kept: its page was looked up at `i`.
 fn refill(
     mem: &mut [u8],
     tlb: &mut [u64],
@@ -51,8 +52,9 @@ fn refill(
     size: Size,
     kind: Access,
     user: bool,
+    i: usize,
 ) -> Answer
-    requires { ⌜ Good (length (now mem)) pdir (now tlb) ⌝ }
+    requires { ⌜ Good (length (now mem)) pdir (now tlb) × (i ≡ indexOf (addr / 4096) (held (now tlb))) ⌝ }
     ensures { λ r. ⌜ Refills pdir (request kind size addr user) (now (mem .entry)) (now (tlb .entry)) r (now (mem .exit)) (now (tlb .exit)) ⌝ }
 {
     let page = addr / 4096;
@@ -63,7 +65,7 @@ fn refill(
             user: u,
             write: w,
         } => {
-            buffer::keep(tlb, buffer::pack(page, frame, u, w));
+            buffer::keep(tlb, i, buffer::pack(page, frame, u, w));
             Answer::At(in_frame(frame, addr, size))
         }
         PageWalk::Faulted(code) => denied(code, addr),
@@ -96,9 +98,19 @@ fn translate_slow(
     hint[(page % 256) as usize] = (i % 256) as u8;
     let hit = buffer::slot(tlb, i, page as u64, kind, user);
     let Hit::Frame(frame) = hit else {
-        return refill(mem, tlb, pdir, addr, size, kind, user);
+        return refill(mem, tlb, pdir, addr, size, kind, user, i);
     };
     Answer::At(in_frame(frame, addr, size))
+}
+
+// The slow translation's answer, taken apart and put together: so that the answer of a hit is never in memory that the slow one was lent, but in registers.
+fn again(a: Answer) -> Answer
+    ensures { λ r. ⌜ r ≡ a ⌝ }
+{
+    match a {
+        Answer::At(q) => Answer::At(q),
+        Answer::Denied(f) => denied(f.code, f.address),
+    }
 }
 
 // Where an access lies. The hint says in which slot a page's entry may stand: it is checked on use, and may hold anything. Compilers inline
@@ -122,14 +134,16 @@ pub fn translate(
         let h = wide(hint[(page % 256) as usize]);
         let hit = buffer::slot(tlb, h, page as u64, kind, user);
         let Hit::Frame(frame) = hit else {
-            return translate_slow(mem, tlb, hint, paging, pdir, addr, size, kind, user);
+            let a = translate_slow(mem, tlb, hint, paging, pdir, addr, size, kind, user);
+            return again(a);
         };
         return Answer::At(in_frame(frame, addr, size));
     }
     if (addr as usize) < mem.len() {
         return Answer::At(align(addr, size) as usize);
     }
-    translate_slow(mem, tlb, hint, paging, pdir, addr, size, kind, user)
+    let a = translate_slow(mem, tlb, hint, paging, pdir, addr, size, kind, user);
+    again(a)
 }
 
 fn wide(x: u8) -> usize

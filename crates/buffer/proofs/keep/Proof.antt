@@ -6,9 +6,6 @@ use Rattle.buffer.proofs.Keeping.{keep-same, keep-first, keep-next}
 use Rattle.buffer.proofs.keep.Statement.{statement}
 use Rattle.buffer.proofs.keep.Tie as tie
 
-lookup-requires : tie.Need-lookup-requires
-lookup-requires c κs = search needs
-
 count-requires : tie.Need-count-requires
 count-requires c κs = search needs
 
@@ -40,14 +37,14 @@ same-length : tie.Need-same-length
 same-length c = search needs
 
 returns : tie.Need-returns
-returns c = keep-same _ _ (c .before .before .before .before .before .before .pre) (c .before .before .before .lookup .ensures) (omega arith)
+returns c = keep-same _ _ (c .before .before .before .before .pre .0) (c .before .before .before .before .pre .1) (omega arith)
 
 same-length-2 : tie.Need-same-length-2
 same-length-2 c = search needs
 
 returns-2 : tie.Need-returns-2
 returns-2 c =
-    keep-first _ _ (c .before .before .before .before .before .before .before .pre) (c .before .before .before .before .lookup .ensures)
+    keep-first _ _ (c .before .before .before .before .before .pre .0) (c .before .before .before .before .before .pre .1)
     (omega arith) (omega arith)
 
 same-length-3 : tie.Need-same-length-3
@@ -55,14 +52,13 @@ same-length-3 c = search needs
 
 returns-3 : tie.Need-returns-3
 returns-3 c =
-    keep-next _ _ (c .before .before .before .before .before .before .before .pre) (c .before .before .before .before .lookup .ensures)
+    keep-next _ _ (c .before .before .before .before .before .pre .0) (c .before .before .before .before .before .pre .1)
     (omega arith) (c .before .before .count .ensures) (omega arith)
 
 pub keep-spec : {M : Type 1} → statement M
 keep-spec =
     tie.close
     (tie.spec
-    lookup-requires
     count-requires
     mul-tlb
     slice-write-tlb

@@ -1,7 +1,7 @@
 -- `mmu::translate` meets its contract. Assumes nothing.
 use native.Mathlib.Omega.{arith}
 use borrow.Author.Needs.{needs}
-use Rattle.mmu.proofs.Ways.{translate-hit, translate-at}
+use Rattle.mmu.proofs.Ways.{translate-hit, translate-at, answered}
 use Rattle.mmu.proofs.translate.Statement.{statement}
 use Rattle.mmu.proofs.translate.Tie as tie
 
@@ -29,6 +29,9 @@ enum-told c = search needs
 translate-slow-requires : tie.Need-translate-slow-requires
 translate-slow-requires c κs = search needs
 
+again-requires : tie.Need-again-requires
+again-requires c κs = search needs
+
 same-length : tie.Need-same-length
 same-length c = search needs
 
@@ -36,7 +39,7 @@ same-length-2 : tie.Need-same-length-2
 same-length-2 c = search needs
 
 returns : tie.Need-returns
-returns c = search needs
+returns c = answered (c .again .ensures) (c .before .before .before .before .before .translate-slow .ensures)
 
 in-frame-requires : tie.Need-in-frame-requires
 in-frame-requires c κs = search needs
@@ -53,8 +56,8 @@ returns-2 c =
 align-requires : tie.Need-align-requires
 align-requires c κs = search needs
 
-cast-t31 : tie.Need-cast-t31
-cast-t31 c = search needs
+cast-t33 : tie.Need-cast-t33
+cast-t33 c = search needs
 
 returns-3 : tie.Need-returns-3
 returns-3 c =
@@ -64,6 +67,9 @@ returns-3 c =
 translate-slow-requires-2 : tie.Need-translate-slow-requires-2
 translate-slow-requires-2 c κs = search needs
 
+again-requires-2 : tie.Need-again-requires-2
+again-requires-2 c κs = search needs
+
 same-length-4 : tie.Need-same-length-4
 same-length-4 c = search needs
 
@@ -71,7 +77,7 @@ same-length-5 : tie.Need-same-length-5
 same-length-5 c = search needs
 
 returns-4 : tie.Need-returns-4
-returns-4 c = search needs
+returns-4 c = answered (c .again2 .ensures) (c .before .before .before .before .before .translate-slow2 .ensures)
 
 pub translate-spec : {M : Type 1} → statement M
 translate-spec =
@@ -85,6 +91,7 @@ translate-spec =
     enum-known-hit
     enum-told
     translate-slow-requires
+    again-requires
     same-length
     same-length-2
     returns
@@ -92,9 +99,10 @@ translate-spec =
     same-length-3
     returns-2
     align-requires
-    cast-t31
+    cast-t33
     returns-3
     translate-slow-requires-2
+    again-requires-2
     same-length-4
     same-length-5
     returns-4)
