@@ -1,192 +1,143 @@
+-- `arithmetic::compute` meets its contract. Assumes nothing.
 use borrow.Author.Tests.{ne-eqb}
 use Rattle.arithmetic.specs.Computed.{computed}
 use borrow.Author.Needs.{needs}
 use Rattle.arithmetic.proofs.compute.Statement.{statement}
 use Rattle.arithmetic.proofs.compute.Tie as tie
-use Rattle.arithmetic.proofs.compute.Reads as reads
-use Rattle.arithmetic.proofs.compute.Lts as lts
-use Rattle.word.proofs.difference.Reads as difference-reads
-use Rattle.word.proofs.product.Reads as product-reads
-use Rattle.word.proofs.quotient.Reads as quotient-reads
-use Rattle.word.proofs.remainder.Reads as remainder-reads
-use Rattle.word.proofs.shift_left.Reads as shift-left-reads
-use Rattle.word.proofs.shift_right.Reads as shift-right-reads
-use Rattle.word.proofs.shift_right_unsigned.Reads as shift-right-unsigned-reads
-use Rattle.word.proofs.sum.Reads as sum-reads
 
--- src/lib.rt:18:39
 enum-told : tie.Need-enum-told
 enum-told c = search needs
 
--- src/lib.rt:18:39
 sum-requires : tie.Need-sum-requires
 sum-requires c κs = search needs
 
--- src/lib.rt:19:39
 enum-told-2 : tie.Need-enum-told-2
 enum-told-2 c = search needs
 
--- src/lib.rt:19:39
 difference-requires : tie.Need-difference-requires
 difference-requires c κs = search needs
 
--- src/lib.rt:20:39
 enum-told-3 : tie.Need-enum-told-3
 enum-told-3 c = search needs
 
--- src/lib.rt:20:39
 product-requires : tie.Need-product-requires
 product-requires c κs = search needs
 
--- src/lib.rt:22:16
 enum-told-4 : tie.Need-enum-told-4
 enum-told-4 c = search needs
 
--- src/lib.rt:23:17
 returns : tie.Need-returns
 unfolding computed
 returns c = rw (c .before .enum-told4 .given .1, c .if1 .taken)
 
--- src/lib.rt:25:29
 quotient-requires : tie.Need-quotient-requires
 quotient-requires c κs = search needs
 
--- src/lib.rt:28:16
 enum-told-5 : tie.Need-enum-told-5
 enum-told-5 c = search needs
 
--- src/lib.rt:29:17
 returns-2 : tie.Need-returns-2
 unfolding computed
 returns-2 c = rw (c .before .enum-told5 .given .1, c .if2 .taken)
 
--- src/lib.rt:31:29
 div-t11 : tie.Need-div-t11
 div-t11 c = search needs
 
--- src/lib.rt:34:16
 enum-told-6 : tie.Need-enum-told-6
 enum-told-6 c = search needs
 
--- src/lib.rt:35:17
 returns-3 : tie.Need-returns-3
 unfolding computed
 returns-3 c = rw (c .before .enum-told6 .given .1, c .if3 .taken)
 
--- src/lib.rt:37:29
 remainder-requires : tie.Need-remainder-requires
 remainder-requires c κs = search needs
 
--- src/lib.rt:40:16
 enum-told-7 : tie.Need-enum-told-7
 enum-told-7 c = search needs
 
--- src/lib.rt:41:17
 returns-4 : tie.Need-returns-4
 unfolding computed
 returns-4 c = rw (c .before .enum-told7 .given .1, c .if4 .taken)
 
--- src/lib.rt:43:29
 rem-t15 : tie.Need-rem-t15
 rem-t15 c = search needs
 
--- src/lib.rt:45:39
 enum-told-8 : tie.Need-enum-told-8
 enum-told-8 c = search needs
 
--- src/lib.rt:46:38
 enum-told-9 : tie.Need-enum-told-9
 enum-told-9 c = search needs
 
--- src/lib.rt:47:39
 enum-told-10 : tie.Need-enum-told-10
 enum-told-10 c = search needs
 
--- src/lib.rt:48:39
 enum-told-11 : tie.Need-enum-told-11
 enum-told-11 c = search needs
 
--- src/lib.rt:48:39
 shift-left-requires : tie.Need-shift-left-requires
 shift-left-requires c κs = search needs
 
--- src/lib.rt:49:39
 enum-told-12 : tie.Need-enum-told-12
 enum-told-12 c = search needs
 
--- src/lib.rt:49:39
 shift-right-requires : tie.Need-shift-right-requires
 shift-right-requires c κs = search needs
 
--- src/lib.rt:50:39
 enum-told-13 : tie.Need-enum-told-13
 enum-told-13 c = search needs
 
--- src/lib.rt:50:39
 shift-right-unsigned-requires : tie.Need-shift-right-unsigned-requires
 shift-right-unsigned-requires c κs = search needs
 
--- src/lib.rt:14:1
 returns-5 : tie.Need-returns-5
 unfolding computed
 returns-5 c = rw (c .before .enum-told .given .1, c .sum .ensures)
 
--- src/lib.rt:14:1
 returns-6 : tie.Need-returns-6
 unfolding computed
 returns-6 c = rw (c .before .enum-told2 .given .1, c .difference .ensures)
 
--- src/lib.rt:14:1
 returns-7 : tie.Need-returns-7
 unfolding computed
 returns-7 c = rw (c .before .enum-told3 .given .1, c .product .ensures)
 
--- src/lib.rt:14:1
 returns-8 : tie.Need-returns-8
 unfolding computed
 returns-8 c = rw (c .before .before .enum-told4 .given .1, ne-eqb _ 0 (c .before .if1 .left), c .quotient .ensures)
 
--- src/lib.rt:14:1
 returns-9 : tie.Need-returns-9
 unfolding computed
 returns-9 c = rw (c .before .enum-told5 .given .1, ne-eqb _ 0 (c .if2 .left))
 
--- src/lib.rt:14:1
 returns-10 : tie.Need-returns-10
 unfolding computed
 returns-10 c = rw (c .before .before .enum-told6 .given .1, ne-eqb _ 0 (c .before .if3 .left), c .remainder .ensures)
 
--- src/lib.rt:14:1
 returns-11 : tie.Need-returns-11
 unfolding computed
 returns-11 c = rw (c .before .enum-told7 .given .1, ne-eqb _ 0 (c .if4 .left))
 
--- src/lib.rt:14:1
 returns-12 : tie.Need-returns-12
 unfolding computed
 returns-12 c = rw (c .enum-told8 .given .1)
 
--- src/lib.rt:14:1
 returns-13 : tie.Need-returns-13
 unfolding computed
 returns-13 c = rw (c .enum-told9 .given .1)
 
--- src/lib.rt:14:1
 returns-14 : tie.Need-returns-14
 unfolding computed
 returns-14 c = rw (c .enum-told10 .given .1)
 
--- src/lib.rt:14:1
 returns-15 : tie.Need-returns-15
 unfolding computed
 returns-15 c = rw (c .before .enum-told11 .given .1, c .shift-left .ensures)
 
--- src/lib.rt:14:1
 returns-16 : tie.Need-returns-16
 unfolding computed
 returns-16 c = rw (c .before .enum-told12 .given .1, c .shift-right .ensures)
 
--- src/lib.rt:14:1
 returns-17 : tie.Need-returns-17
 unfolding computed
 returns-17 c = rw (c .before .enum-told13 .given .1, c .shift-right-unsigned .ensures)

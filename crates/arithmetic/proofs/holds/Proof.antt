@@ -1,69 +1,53 @@
+-- `arithmetic::holds` meets its contract. Assumes nothing.
 use Rattle.rules.specs.Arithmetic.{holds}
 use borrow.Author.Needs.{needs}
 use Rattle.arithmetic.proofs.holds.Statement.{statement}
 use Rattle.arithmetic.proofs.holds.Tie as tie
-use Rattle.arithmetic.proofs.holds.Reads as reads
-use Rattle.arithmetic.proofs.holds.Lts as lts
-use Rattle.word.proofs.less_signed.Reads as less-signed-reads
 
--- src/lib.rt:59:21
 enum-told : tie.Need-enum-told
 enum-told c = search needs
 
--- src/lib.rt:60:21
 enum-told-2 : tie.Need-enum-told-2
 enum-told-2 c = search needs
 
--- src/lib.rt:61:21
 enum-told-3 : tie.Need-enum-told-3
 enum-told-3 c = search needs
 
--- src/lib.rt:61:21
 less-signed-requires : tie.Need-less-signed-requires
 less-signed-requires c κs = search needs
 
--- src/lib.rt:62:22
 enum-told-4 : tie.Need-enum-told-4
 enum-told-4 c = search needs
 
--- src/lib.rt:63:22
 enum-told-5 : tie.Need-enum-told-5
 enum-told-5 c = search needs
 
--- src/lib.rt:63:22
 less-signed-requires-2 : tie.Need-less-signed-requires-2
 less-signed-requires-2 c κs = search needs
 
--- src/lib.rt:64:24
 enum-told-6 : tie.Need-enum-told-6
 enum-told-6 c = search needs
 
--- src/lib.rt:55:1
 returns : tie.Need-returns
 unfolding holds
 returns c = rw (c .enum-told .given .1)
 
--- src/lib.rt:55:1
 returns-2 : tie.Need-returns-2
 unfolding holds
 returns-2 c = rw (c .enum-told2 .given .1)
 
--- src/lib.rt:55:1
 returns-3 : tie.Need-returns-3
 unfolding holds
 returns-3 c = rw (c .before .enum-told3 .given .1, c .less-signed .ensures)
 
--- src/lib.rt:55:1
 returns-4 : tie.Need-returns-4
 unfolding holds
 returns-4 c = rw (c .enum-told4 .given .1)
 
--- src/lib.rt:55:1
 returns-5 : tie.Need-returns-5
 unfolding holds
 returns-5 c = rw (c .before .enum-told5 .given .1, c .less-signed2 .ensures)
 
--- src/lib.rt:55:1
 returns-6 : tie.Need-returns-6
 unfolding holds
 returns-6 c = rw (c .enum-told6 .given .1)

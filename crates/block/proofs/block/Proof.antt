@@ -1,111 +1,81 @@
+-- `block::block` meets its contract. Assumes nothing.
 use Rattle.outcome.proofs.Laws.{executes-fine}
 use Rattle.rules.specs.Block.{blockTree}
 use borrow.Author.Tests.{ne-eqb, eq-eqb}
 use borrow.Author.Needs.{needs}
 use Rattle.block.proofs.block.Statement.{statement}
 use Rattle.block.proofs.block.Tie as tie
-use Rattle.block.proofs.block.Reads as reads
-use Rattle.block.proofs.block.Lts as lts
-use Rattle.block.proofs.compare_byte.Reads as compare-byte-reads
-use Rattle.block.proofs.copy_byte.Reads as copy-byte-reads
-use Rattle.block.proofs.finish.Reads as finish-reads
-use Rattle.block.proofs.search_byte.Reads as search-byte-reads
-use Rattle.block.proofs.set_byte.Reads as set-byte-reads
-use Rattle.outcome.proofs.fine.Reads as fine-reads
 
--- src/lib.rt:253:30
 finish-requires : tie.Need-finish-requires
 finish-requires c κs = search needs
 
--- src/lib.rt:253:9
 fine-requires : tie.Need-fine-requires
 fine-requires c κs = search needs
 
--- src/lib.rt:253:9
 returns : tie.Need-returns
 unfolding blockTree
 returns c = rw (eq-eqb _ _ (c .before .before .if1 .taken)) (executes-fine (c .before .before .before .before .before .before .pre) (rw (c .fine .ensures, c .before .finish .ensures)))
 
--- src/lib.rt:256:52
 enum-told : tie.Need-enum-told
 enum-told c = search needs
 
--- src/lib.rt:256:26
 copy-byte-requires : tie.Need-copy-byte-requires
 copy-byte-requires c κs = search needs
 
--- src/lib.rt:257:55
 enum-told-2 : tie.Need-enum-told-2
 enum-told-2 c = search needs
 
--- src/lib.rt:257:26
 compare-byte-requires : tie.Need-compare-byte-requires
 compare-byte-requires c κs = search needs
 
--- src/lib.rt:258:54
 enum-told-3 : tie.Need-enum-told-3
 enum-told-3 c = search needs
 
--- src/lib.rt:258:26
 search-byte-requires : tie.Need-search-byte-requires
 search-byte-requires c κs = search needs
 
--- src/lib.rt:259:51
 enum-told-4 : tie.Need-enum-told-4
 enum-told-4 c = search needs
 
--- src/lib.rt:259:26
 set-byte-requires : tie.Need-set-byte-requires
 set-byte-requires c κs = search needs
 
--- src/lib.rt:240:1
 same-length : tie.Need-same-length
 same-length c = search needs
 
--- src/lib.rt:240:1
 same-length-2 : tie.Need-same-length-2
 same-length-2 c = search needs
 
--- src/lib.rt:240:1
 returns-2 : tie.Need-returns-2
 unfolding blockTree
 returns-2 c = rw (c .before .before .before .before .before .before .before .before .enum-told .given .1, ne-eqb _ _ (c .before .before .before .before .before .before .before .before .before .before .if1 .left)) (c .before .before .before .before .copy-byte .ensures)
 
--- src/lib.rt:240:1
 same-length-3 : tie.Need-same-length-3
 same-length-3 c = search needs
 
--- src/lib.rt:240:1
 same-length-4 : tie.Need-same-length-4
 same-length-4 c = search needs
 
--- src/lib.rt:240:1
 returns-3 : tie.Need-returns-3
 unfolding blockTree
 returns-3 c = rw (c .before .before .before .before .before .before .before .before .enum-told2 .given .1, ne-eqb _ _ (c .before .before .before .before .before .before .before .before .before .before .if1 .left)) (c .before .before .before .before .compare-byte .ensures)
 
--- src/lib.rt:240:1
 same-length-5 : tie.Need-same-length-5
 same-length-5 c = search needs
 
--- src/lib.rt:240:1
 same-length-6 : tie.Need-same-length-6
 same-length-6 c = search needs
 
--- src/lib.rt:240:1
 returns-4 : tie.Need-returns-4
 unfolding blockTree
 returns-4 c = rw (c .before .before .before .before .before .before .before .before .enum-told3 .given .1, ne-eqb _ _ (c .before .before .before .before .before .before .before .before .before .before .if1 .left)) (c .before .before .before .before .search-byte .ensures)
 
--- src/lib.rt:240:1
 same-length-7 : tie.Need-same-length-7
 same-length-7 c = search needs
 
--- src/lib.rt:240:1
 same-length-8 : tie.Need-same-length-8
 same-length-8 c = search needs
 
--- src/lib.rt:240:1
 returns-5 : tie.Need-returns-5
 unfolding blockTree
 returns-5 c = rw (c .before .before .before .before .before .before .before .before .enum-told4 .given .1, ne-eqb _ _ (c .before .before .before .before .before .before .before .before .before .before .if1 .left)) (c .before .before .before .before .set-byte .ensures)

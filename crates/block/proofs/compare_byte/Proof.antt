@@ -1,3 +1,4 @@
+-- `block::compare_byte` meets its contract. Assumes nothing.
 use Rattle.outcome.proofs.Laws.{executes-denied, executes-read, executes-fine}
 use Rattle.rules.specs.Block.{byteTree}
 use Rattle.mmu.proofs.Laws.{at-within}
@@ -6,114 +7,81 @@ use native.Mathlib.Omega.{arith}
 use borrow.Author.Needs.{needs}
 use Rattle.block.proofs.compare_byte.Statement.{statement}
 use Rattle.block.proofs.compare_byte.Tie as tie
-use Rattle.block.proofs.compare_byte.Reads as reads
-use Rattle.block.proofs.compare_byte.Lts as lts
-use Rattle.block.proofs.compared.Reads as compared-reads
-use Rattle.memory.proofs.load1.Reads as load1-reads
-use Rattle.mmu.proofs.translate.Reads as translate-reads
-use Rattle.outcome.proofs.ended.Reads as ended-reads
-use Rattle.outcome.proofs.fault_of.Reads as fault-of-reads
-use Rattle.outcome.proofs.fine.Reads as fine-reads
 
--- src/lib.rt:148:9
 translate-requires : tie.Need-translate-requires
 translate-requires c κs = search needs
 
--- src/lib.rt:159:20
 enum-known-p : tie.Need-enum-known-p
 enum-known-p c = search needs
 
--- src/lib.rt:160:44
 enum-told : tie.Need-enum-told
 enum-told c = search needs
 
--- src/lib.rt:160:44
 fault-of-requires : tie.Need-fault-of-requires
 fault-of-requires c κs = search needs
 
--- src/lib.rt:160:9
 ended-requires : tie.Need-ended-requires
 ended-requires c κs = search needs
 
--- src/lib.rt:160:9
 same-length : tie.Need-same-length
 same-length c = search needs
 
--- src/lib.rt:160:9
 same-length-2 : tie.Need-same-length-2
 same-length-2 c = search needs
 
--- src/lib.rt:160:9
 returns : tie.Need-returns
 unfolding byteTree
 returns c = executes-denied (c .before .before .before .before .before .before .before .before .translate .ensures) (c .before .before .enum-told .given .1) (c .before .fault-of .ensures) (c .ended .ensures)
 
--- src/lib.rt:162:13
 load1-requires : tie.Need-load1-requires
 load1-requires c κs = at-within Byte (c .before .before .before .before .before .before .before .before .before .before .before .before .before .before .pre) (c .before .before .before .before .before .before .before .before .translate .ensures) (c .before .before .p .given .1)
 
--- src/lib.rt:162:13
 cast-x : tie.Need-cast-x
 cast-x c = search needs
 
--- src/lib.rt:163:9
 translate-requires-2 : tie.Need-translate-requires-2
 translate-requires-2 c κs = search needs
 
--- src/lib.rt:174:20
 enum-known-q : tie.Need-enum-known-q
 enum-known-q c = search needs
 
--- src/lib.rt:175:44
 enum-told-2 : tie.Need-enum-told-2
 enum-told-2 c = search needs
 
--- src/lib.rt:175:44
 fault-of-requires-2 : tie.Need-fault-of-requires-2
 fault-of-requires-2 c κs = search needs
 
--- src/lib.rt:175:9
 ended-requires-2 : tie.Need-ended-requires-2
 ended-requires-2 c κs = search needs
 
--- src/lib.rt:175:9
 same-length-3 : tie.Need-same-length-3
 same-length-3 c = search needs
 
--- src/lib.rt:175:9
 same-length-4 : tie.Need-same-length-4
 same-length-4 c = search needs
 
--- src/lib.rt:175:9
 returns-2 : tie.Need-returns-2
 unfolding byteTree
 returns-2 c = executes-read (c .before .before .before .before .before .before .before .before .before .before .before .before .before .before .before .before .before .before .before .before .before .translate .ensures) (c .before .before .before .before .before .before .before .before .before .before .before .before .before .before .before .p .given .1) (c .before .before .before .before .before .before .before .before .before .before .before .before .load1 .ensures) (executes-denied (c .before .before .before .before .before .before .before .before .translate2 .ensures) (c .before .before .enum-told2 .given .1) (c .before .fault-of2 .ensures) (c .ended2 .ensures))
 
--- src/lib.rt:177:13
 load1-requires-2 : tie.Need-load1-requires-2
 load1-requires-2 c κs = at-within Byte (c .before .before .before .before .before .before .before .before .before .before .before .before .before .before .before .before .before .before .before .before .before .translate .ensures .good) (c .before .before .before .before .before .before .before .before .translate2 .ensures) (c .before .before .q .given .1)
 
--- src/lib.rt:177:13
 cast-y : tie.Need-cast-y
 cast-y c = search needs
 
--- src/lib.rt:178:19
 compared-requires : tie.Need-compared-requires
 compared-requires c κs = search needs
 
--- src/lib.rt:178:5
 fine-requires : tie.Need-fine-requires
 fine-requires c κs = search needs
 
--- src/lib.rt:137:1
 same-length-5 : tie.Need-same-length-5
 same-length-5 c = omega (arith, c .before .before .before .before .before .before .before .before .before .before .before .translate2 .kept .0, c .before .before .before .before .before .before .before .before .before .before .before .before .before .before .before .before .before .before .before .before .before .before .before .before .translate .kept .0)
 
--- src/lib.rt:137:1
 same-length-6 : tie.Need-same-length-6
 same-length-6 c = omega (arith, c .before .before .before .before .before .before .before .before .before .before .before .translate2 .kept .1, c .before .before .before .before .before .before .before .before .before .before .before .before .before .before .before .before .before .before .before .before .before .before .before .before .translate .kept .1)
 
--- src/lib.rt:137:1
 returns-3 : tie.Need-returns-3
 unfolding byteTree
 returns-3 c = executes-read (c .before .before .before .before .before .before .before .before .before .before .before .before .before .before .before .before .before .before .before .before .before .before .before .before .translate .ensures) (c .before .before .before .before .before .before .before .before .before .before .before .before .before .before .before .before .before .before .p .given .1) (c .before .before .before .before .before .before .before .before .before .before .before .before .before .before .before .load1 .ensures) (executes-read (c .before .before .before .before .before .before .before .before .before .before .before .translate2 .ensures) (c .before .before .before .before .before .q .given .1) (c .before .before .load12 .ensures) (executes-fine (c .before .before .before .before .before .before .before .before .before .before .before .translate2 .ensures .good) (rw (c .fine .ensures, c .before .compared .ensures))))

@@ -1,3 +1,4 @@
+-- `block::copy_byte` meets its contract. Assumes nothing.
 use Rattle.outcome.proofs.Laws.{executes-denied, executes-read, executes-written}
 use Rattle.rules.specs.Block.{byteTree}
 use Rattle.mmu.proofs.Laws.{at-within, length-kept}
@@ -6,111 +7,78 @@ use native.Mathlib.Omega.{arith}
 use borrow.Author.Needs.{needs}
 use Rattle.block.proofs.copy_byte.Statement.{statement}
 use Rattle.block.proofs.copy_byte.Tie as tie
-use Rattle.block.proofs.copy_byte.Reads as reads
-use Rattle.block.proofs.copy_byte.Lts as lts
-use Rattle.block.proofs.again_both.Reads as again-both-reads
-use Rattle.memory.proofs.load1.Reads as load1-reads
-use Rattle.memory.proofs.store1.Reads as store1-reads
-use Rattle.mmu.proofs.translate.Reads as translate-reads
-use Rattle.outcome.proofs.ended.Reads as ended-reads
-use Rattle.outcome.proofs.fault_of.Reads as fault-of-reads
-use Rattle.outcome.proofs.fine.Reads as fine-reads
 
--- src/lib.rt:104:9
 translate-requires : tie.Need-translate-requires
 translate-requires c κs = search needs
 
--- src/lib.rt:115:20
 enum-known-p : tie.Need-enum-known-p
 enum-known-p c = search needs
 
--- src/lib.rt:116:44
 enum-told : tie.Need-enum-told
 enum-told c = search needs
 
--- src/lib.rt:116:44
 fault-of-requires : tie.Need-fault-of-requires
 fault-of-requires c κs = search needs
 
--- src/lib.rt:116:9
 ended-requires : tie.Need-ended-requires
 ended-requires c κs = search needs
 
--- src/lib.rt:116:9
 same-length : tie.Need-same-length
 same-length c = search needs
 
--- src/lib.rt:116:9
 same-length-2 : tie.Need-same-length-2
 same-length-2 c = search needs
 
--- src/lib.rt:116:9
 returns : tie.Need-returns
 unfolding byteTree
 returns c = executes-denied (c .before .before .before .before .before .before .before .before .translate .ensures) (c .before .before .enum-told .given .1) (c .before .fault-of .ensures) (c .ended .ensures)
 
--- src/lib.rt:118:13
 load1-requires : tie.Need-load1-requires
 load1-requires c κs = at-within Byte (c .before .before .before .before .before .before .before .before .before .before .before .before .before .before .pre) (c .before .before .before .before .before .before .before .before .translate .ensures) (c .before .before .p .given .1)
 
--- src/lib.rt:118:13
 cast-x : tie.Need-cast-x
 cast-x c = search needs
 
--- src/lib.rt:119:9
 translate-requires-2 : tie.Need-translate-requires-2
 translate-requires-2 c κs = search needs
 
--- src/lib.rt:130:20
 enum-known-q : tie.Need-enum-known-q
 enum-known-q c = search needs
 
--- src/lib.rt:131:44
 enum-told-2 : tie.Need-enum-told-2
 enum-told-2 c = search needs
 
--- src/lib.rt:131:44
 fault-of-requires-2 : tie.Need-fault-of-requires-2
 fault-of-requires-2 c κs = search needs
 
--- src/lib.rt:131:9
 ended-requires-2 : tie.Need-ended-requires-2
 ended-requires-2 c κs = search needs
 
--- src/lib.rt:131:9
 same-length-3 : tie.Need-same-length-3
 same-length-3 c = search needs
 
--- src/lib.rt:131:9
 same-length-4 : tie.Need-same-length-4
 same-length-4 c = search needs
 
--- src/lib.rt:131:9
 returns-2 : tie.Need-returns-2
 unfolding byteTree
 returns-2 c = executes-read (c .before .before .before .before .before .before .before .before .before .before .before .before .before .before .before .before .before .before .before .before .before .translate .ensures) (c .before .before .before .before .before .before .before .before .before .before .before .before .before .before .before .p .given .1) (c .before .before .before .before .before .before .before .before .before .before .before .before .load1 .ensures) (executes-denied (c .before .before .before .before .before .before .before .before .translate2 .ensures) (c .before .before .enum-told2 .given .1) (c .before .fault-of2 .ensures) (c .ended2 .ensures))
 
--- src/lib.rt:133:5
 store1-requires : tie.Need-store1-requires
 store1-requires c κs = at-within Byte (c .before .before .before .before .before .before .before .before .before .before .before .before .before .before .before .before .before .before .before .before .before .translate .ensures .good) (c .before .before .before .before .before .before .before .before .translate2 .ensures) (c .before .before .q .given .1)
 
--- src/lib.rt:134:19
 again-both-requires : tie.Need-again-both-requires
 again-both-requires c κs = search needs
 
--- src/lib.rt:134:5
 fine-requires : tie.Need-fine-requires
 fine-requires c κs = search needs
 
--- src/lib.rt:93:1
 same-length-5 : tie.Need-same-length-5
 same-length-5 c = omega (arith, c .before .before .before .before .store1 .kept .0, c .before .before .before .before .before .before .before .before .before .before .before .before .before .translate2 .kept .0, c .before .before .before .before .before .before .before .before .before .before .before .before .before .before .before .before .before .before .before .before .before .before .before .before .before .before .translate .kept .0)
 
--- src/lib.rt:93:1
 same-length-6 : tie.Need-same-length-6
 same-length-6 c = omega (arith, c .before .before .before .before .before .before .before .before .before .before .before .before .before .translate2 .kept .1, c .before .before .before .before .before .before .before .before .before .before .before .before .before .before .before .before .before .before .before .before .before .before .before .before .before .before .translate .kept .1)
 
--- src/lib.rt:93:1
 returns-3 : tie.Need-returns-3
 unfolding byteTree
 returns-3 c = executes-read (c .before .before .before .before .before .before .before .before .before .before .before .before .before .before .before .before .before .before .before .before .before .before .before .before .before .before .translate .ensures) (c .before .before .before .before .before .before .before .before .before .before .before .before .before .before .before .before .before .before .before .before .p .given .1) (c .before .before .before .before .before .before .before .before .before .before .before .before .before .before .before .before .before .load1 .ensures) (executes-written (c .before .before .before .before .before .before .before .before .before .before .before .before .before .translate2 .ensures) (c .before .before .before .before .before .before .before .q .given .1) (rw (c .fine .ensures, c .before .again-both .ensures)) (c .before .before .before .before .store1 .ensures))

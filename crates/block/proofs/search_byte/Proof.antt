@@ -1,3 +1,4 @@
+-- `block::search_byte` meets its contract. Assumes nothing.
 use Rattle.outcome.proofs.Laws.{executes-denied, executes-read, executes-fine}
 use Rattle.rules.specs.Block.{byteTree}
 use Rattle.mmu.proofs.Laws.{at-within}
@@ -5,73 +6,50 @@ use Rattle.memory.specs.declared.Size.the-variants.{Byte}
 use borrow.Author.Needs.{needs}
 use Rattle.block.proofs.search_byte.Statement.{statement}
 use Rattle.block.proofs.search_byte.Tie as tie
-use Rattle.block.proofs.search_byte.Reads as reads
-use Rattle.block.proofs.search_byte.Lts as lts
-use Rattle.block.proofs.searched.Reads as searched-reads
-use Rattle.memory.proofs.load1.Reads as load1-reads
-use Rattle.mmu.proofs.translate.Reads as translate-reads
-use Rattle.outcome.proofs.ended.Reads as ended-reads
-use Rattle.outcome.proofs.fault_of.Reads as fault-of-reads
-use Rattle.outcome.proofs.fine.Reads as fine-reads
 
--- src/lib.rt:192:9
 translate-requires : tie.Need-translate-requires
 translate-requires c κs = search needs
 
--- src/lib.rt:203:20
 enum-known-p : tie.Need-enum-known-p
 enum-known-p c = search needs
 
--- src/lib.rt:204:44
 enum-told : tie.Need-enum-told
 enum-told c = search needs
 
--- src/lib.rt:204:44
 fault-of-requires : tie.Need-fault-of-requires
 fault-of-requires c κs = search needs
 
--- src/lib.rt:204:9
 ended-requires : tie.Need-ended-requires
 ended-requires c κs = search needs
 
--- src/lib.rt:204:9
 same-length : tie.Need-same-length
 same-length c = search needs
 
--- src/lib.rt:204:9
 same-length-2 : tie.Need-same-length-2
 same-length-2 c = search needs
 
--- src/lib.rt:204:9
 returns : tie.Need-returns
 unfolding byteTree
 returns c = executes-denied (c .before .before .before .before .before .before .before .before .translate .ensures) (c .before .before .enum-told .given .1) (c .before .fault-of .ensures) (c .ended .ensures)
 
--- src/lib.rt:206:13
 load1-requires : tie.Need-load1-requires
 load1-requires c κs = at-within Byte (c .before .before .before .before .before .before .before .before .before .before .before .before .before .before .pre) (c .before .before .before .before .before .before .before .before .translate .ensures) (c .before .before .p .given .1)
 
--- src/lib.rt:206:13
 cast-x : tie.Need-cast-x
 cast-x c = search needs
 
--- src/lib.rt:207:19
 searched-requires : tie.Need-searched-requires
 searched-requires c κs = search needs
 
--- src/lib.rt:207:5
 fine-requires : tie.Need-fine-requires
 fine-requires c κs = search needs
 
--- src/lib.rt:181:1
 same-length-3 : tie.Need-same-length-3
 same-length-3 c = search needs
 
--- src/lib.rt:181:1
 same-length-4 : tie.Need-same-length-4
 same-length-4 c = search needs
 
--- src/lib.rt:181:1
 returns-2 : tie.Need-returns-2
 unfolding byteTree
 returns-2 c = executes-read (c .before .before .before .before .before .before .before .before .before .before .before .translate .ensures) (c .before .before .before .before .before .p .given .1) (c .before .before .load1 .ensures) (executes-fine (c .before .before .before .before .before .before .before .before .before .before .before .translate .ensures .good) (rw (c .fine .ensures, c .before .searched .ensures)))

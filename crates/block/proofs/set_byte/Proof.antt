@@ -1,3 +1,4 @@
+-- `block::set_byte` meets its contract. Assumes nothing.
 use Rattle.outcome.proofs.Laws.{executes-denied, executes-written}
 use Rattle.rules.specs.Block.{byteTree}
 use Rattle.mmu.proofs.Laws.{at-within}
@@ -5,69 +6,47 @@ use Rattle.memory.specs.declared.Size.the-variants.{Byte}
 use borrow.Author.Needs.{needs}
 use Rattle.block.proofs.set_byte.Statement.{statement}
 use Rattle.block.proofs.set_byte.Tie as tie
-use Rattle.block.proofs.set_byte.Reads as reads
-use Rattle.block.proofs.set_byte.Lts as lts
-use Rattle.block.proofs.again.Reads as again-reads
-use Rattle.memory.proofs.store1.Reads as store1-reads
-use Rattle.mmu.proofs.translate.Reads as translate-reads
-use Rattle.outcome.proofs.ended.Reads as ended-reads
-use Rattle.outcome.proofs.fault_of.Reads as fault-of-reads
-use Rattle.outcome.proofs.fine.Reads as fine-reads
 
--- src/lib.rt:221:9
 translate-requires : tie.Need-translate-requires
 translate-requires c κs = search needs
 
--- src/lib.rt:232:20
 enum-known-p : tie.Need-enum-known-p
 enum-known-p c = search needs
 
--- src/lib.rt:233:44
 enum-told : tie.Need-enum-told
 enum-told c = search needs
 
--- src/lib.rt:233:44
 fault-of-requires : tie.Need-fault-of-requires
 fault-of-requires c κs = search needs
 
--- src/lib.rt:233:9
 ended-requires : tie.Need-ended-requires
 ended-requires c κs = search needs
 
--- src/lib.rt:233:9
 same-length : tie.Need-same-length
 same-length c = search needs
 
--- src/lib.rt:233:9
 same-length-2 : tie.Need-same-length-2
 same-length-2 c = search needs
 
--- src/lib.rt:233:9
 returns : tie.Need-returns
 unfolding byteTree
 returns c = executes-denied (c .before .before .before .before .before .before .before .before .translate .ensures) (c .before .before .enum-told .given .1) (c .before .fault-of .ensures) (c .ended .ensures)
 
--- src/lib.rt:235:5
 store1-requires : tie.Need-store1-requires
 store1-requires c κs = at-within Byte (c .before .before .before .before .before .before .before .before .before .before .before .before .before .before .before .pre) (c .before .before .before .before .before .before .before .before .before .translate .ensures) (c .before .before .before .p .given .1)
 
--- src/lib.rt:236:19
 again-requires : tie.Need-again-requires
 again-requires c κs = search needs
 
--- src/lib.rt:236:5
 fine-requires : tie.Need-fine-requires
 fine-requires c κs = search needs
 
--- src/lib.rt:210:1
 same-length-3 : tie.Need-same-length-3
 same-length-3 c = search needs
 
--- src/lib.rt:210:1
 same-length-4 : tie.Need-same-length-4
 same-length-4 c = search needs
 
--- src/lib.rt:210:1
 returns-2 : tie.Need-returns-2
 unfolding byteTree
 returns-2 c = executes-written (c .before .before .before .before .before .before .before .before .before .before .before .before .before .before .translate .ensures) (c .before .before .before .before .before .before .before .before .p .given .1) (rw (c .fine .ensures, c .before .again .ensures)) (c .before .before .before .before .store1 .ensures)

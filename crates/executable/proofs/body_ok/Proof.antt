@@ -1,3 +1,4 @@
+-- `executable::body_ok` meets its contract. Assumes nothing.
 use borrow.Author.Needs.{needs}
 use Rattle.executable.proofs.body_ok.Statement.{statement}
 use Rattle.executable.proofs.body_ok.Tie as tie

@@ -1,3 +1,4 @@
+-- `executable::entry_ok` meets its contract. Assumes nothing.
 use borrow.Author.Needs.{needs}
 use Rattle.executable.proofs.entry_ok.Statement.{statement}
 use Rattle.executable.proofs.entry_ok.Tie as tie

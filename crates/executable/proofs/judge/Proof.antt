@@ -1,67 +1,48 @@
+-- `executable::judge` meets its contract. Assumes nothing.
 use Rattle.executable.proofs.Laws.{bad-size, short-file, bad-magic, bad-body, bad-data-start, bad-entry, accepted}
 use borrow.Author.Needs.{needs}
 use Rattle.executable.proofs.judge.Statement.{statement}
 use Rattle.executable.proofs.judge.Tie as tie
-use Rattle.executable.proofs.judge.Reads as reads
-use Rattle.executable.proofs.judge.Lts as lts
-use Rattle.executable.proofs.body_ok.Reads as body-ok-reads
-use Rattle.executable.proofs.entry_ok.Reads as entry-ok-reads
-use Rattle.memory.proofs.load4.Reads as load4-reads
-use Rattle.memory.proofs.size_ok.Reads as size-ok-reads
 
--- src/lib.rt:51:9
 size-ok-requires : tie.Need-size-ok-requires
 size-ok-requires c κs = search needs
 
--- src/lib.rt:53:9
 returns : tie.Need-returns
 returns c = bad-size _ _ (c .before .size-ok .ensures) (c .if1 .taken)
 
--- src/lib.rt:57:9
 returns-2 : tie.Need-returns-2
 returns-2 c = short-file _ _ (c .before .before .size-ok .ensures) (c .before .if1 .left) (c .if2 .taken)
 
--- src/lib.rt:59:8
 load4-requires : tie.Need-load4-requires
 load4-requires c κs = search needs
 
--- src/lib.rt:60:9
 returns-3 : tie.Need-returns-3
 returns-3 c = bad-magic _ _ (c .before .before .before .before .size-ok .ensures) (c .before .before .before .if1 .left) (c .before .before .if2 .left) (c .before .load4 .ensures) (c .if3 .taken)
 
--- src/lib.rt:62:9
 body-ok-requires : tie.Need-body-ok-requires
 body-ok-requires c κs = search needs
 
--- src/lib.rt:64:9
 returns-4 : tie.Need-returns-4
 returns-4 c = bad-body _ _ (c .before .before .before .before .before .before .size-ok .ensures) (c .before .before .before .before .before .if1 .left) (c .before .before .before .before .if2 .left) (c .before .before .before .load4 .ensures) (c .before .before .if3 .left) (c .before .body-ok .ensures) (c .if4 .taken)
 
--- src/lib.rt:66:9
 load4-requires-2 : tie.Need-load4-requires-2
 load4-requires-2 c κs = search needs
 
--- src/lib.rt:67:19
 cast-if5 : tie.Need-cast-if5
 cast-if5 c = search needs
 
--- src/lib.rt:68:9
 returns-5 : tie.Need-returns-5
 returns-5 c = bad-data-start _ _ (c .before .before .before .before .before .before .before .before .size-ok .ensures) (c .before .before .before .before .before .before .before .if1 .left) (c .before .before .before .before .before .before .if2 .left) (c .before .before .before .before .before .load4 .ensures) (c .before .before .before .before .if3 .left) (c .before .before .before .body-ok .ensures) (c .before .before .if4 .left) (c .before .load42 .ensures) (c .if5 .taken)
 
--- src/lib.rt:70:26
 load4-requires-3 : tie.Need-load4-requires-3
 load4-requires-3 c κs = search needs
 
--- src/lib.rt:70:9
 entry-ok-requires : tie.Need-entry-ok-requires
 entry-ok-requires c κs = search needs
 
--- src/lib.rt:72:9
 returns-6 : tie.Need-returns-6
 returns-6 c = bad-entry _ _ (c .before .before .before .before .before .before .before .before .before .before .before .size-ok .ensures) (c .before .before .before .before .before .before .before .before .before .before .if1 .left) (c .before .before .before .before .before .before .before .before .before .if2 .left) (c .before .before .before .before .before .before .before .before .load4 .ensures) (c .before .before .before .before .before .before .before .if3 .left) (c .before .before .before .before .before .before .body-ok .ensures) (c .before .before .before .before .before .if4 .left) (c .before .before .before .before .load42 .ensures) (c .before .before .before .if5 .left) (c .before .before .load43 .ensures) (c .before .entry-ok .ensures) (c .if6 .taken)
 
--- src/lib.rt:48:1
 returns-7 : tie.Need-returns-7
 returns-7 c = accepted _ _ (c .before .before .before .before .before .before .before .before .before .before .before .size-ok .ensures) (c .before .before .before .before .before .before .before .before .before .before .if1 .left) (c .before .before .before .before .before .before .before .before .before .if2 .left) (c .before .before .before .before .before .before .before .before .load4 .ensures) (c .before .before .before .before .before .before .before .if3 .left) (c .before .before .before .before .before .before .body-ok .ensures) (c .before .before .before .before .before .if4 .left) (c .before .before .before .before .load42 .ensures) (c .before .before .before .if5 .left) (c .before .before .load43 .ensures) (c .before .entry-ok .ensures) (c .if6 .left)
 

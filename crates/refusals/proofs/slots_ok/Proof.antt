@@ -1,17 +1,13 @@
+-- `refusals::slots_ok` meets its contract. Assumes nothing.
 use Rattle.refusals.proofs.Slots.{slots-ok}
 use mathlib.Core.Path.{_∙_}
 use borrow.Author.Needs.{needs}
 use Rattle.refusals.proofs.slots_ok.Statement.{statement}
 use Rattle.refusals.proofs.slots_ok.Tie as tie
-use Rattle.refusals.proofs.slots_ok.Reads as reads
-use Rattle.refusals.proofs.slots_ok.Lts as lts
-use Rattle.entries.proofs.buffer_ok.Reads as buffer-ok-reads
 
--- src/lib.rt:59:5
 buffer-ok-requires : tie.Need-buffer-ok-requires
 buffer-ok-requires c κs = search needs
 
--- src/lib.rt:56:1
 returns : tie.Need-returns
 returns c = c .buffer-ok .ensures ∙ slots-ok _ _ _ (c .before .good .0 .1 .0 .1)
 

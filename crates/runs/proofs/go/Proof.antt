@@ -1,13 +1,10 @@
+-- `runs::go` meets its contract. Assumes nothing.
 use Rattle.runs.proofs.Loop.{Turn, turn-first, turn-ready, turn-fits, turn-less, turn-next, turn-last}
 use borrow.Author.Needs.{needs}
 use lib.ListN.{length}
 use mathlib.Core.Path.{_≡_, refl, _∙_}
 use Rattle.runs.proofs.go.Statement.{statement}
 use Rattle.runs.proofs.go.Tie as tie
-use Rattle.runs.proofs.go.Reads as reads
-use Rattle.runs.proofs.go.Lts as lts
-use Rattle.machine.proofs.advance.Reads as advance-reads
-use Rattle.runs.proofs.left_of.Reads as left-of-reads
 
 abbrev Inv-loop : tie.InvT-loop
 Inv-loop c left next mem₀ console₀ tlb₀ hint₀ x₀ n₀ mem console tlb hint x n =
@@ -16,39 +13,30 @@ Inv-loop c left next mem₀ console₀ tlb₀ hint₀ x₀ n₀ mem console tlb 
 abbrev μ-loop : tie.MeasureT-loop
 μ-loop c left next mem₀ console₀ tlb₀ hint₀ x₀ n₀ mem console tlb hint x n = n
 
--- src/lib.rt:92:5
 loop-holds : tie.Need-loop-holds Inv-loop μ-loop
 loop-holds c = (refl, (refl, (refl, turn-first (c .before .before .before .pre .0))))
 
--- src/lib.rt:93:13
 advance-requires : tie.Need-advance-requires Inv-loop μ-loop
 advance-requires c κs = (turn-ready (c .before .before .before .before .before .before .before .before .before .before .before .pre .0) (c .before .before .before .before .before .before .before .loop .inv .1 .1 .1) (c .before .before .before .before .if1 .taken), turn-fits (c .before .before .before .before .before .before .before .before .before .before .before .pre .0) (c .before .before .before .before .before .before .before .loop .inv .1 .1 .1) (c .before .before .before .before .if1 .taken) (c .before .before .before .before .before .before .before .before .before .before .before .pre .1))
 
--- src/lib.rt:96:9
 left-of-requires : tie.Need-left-of-requires Inv-loop μ-loop
 left-of-requires c κs = search needs
 
--- src/lib.rt:92:5
 loop-less : tie.Need-loop-less Inv-loop μ-loop
 loop-less c = turn-less (c .before .before .before .before .before .before .before .before .before .before .before .before .before .before .before .before .before .before .before .before .pre .0) (c .before .before .before .before .before .before .before .before .before .before .before .before .before .before .before .before .loop .inv .1 .1 .1) (c .before .before .before .before .before .before .before .before .before .before .before .before .before .if1 .taken) (c .before .before .before .before .before .before .before .before .advance .ensures) (c .left-of .ensures)
 
--- src/lib.rt:92:5
 loop-again : tie.Need-loop-again Inv-loop μ-loop
 loop-again c = (c .before .before .before .before .before .before .before .before .advance .kept .1 .1 .1 .0 ∙ c .before .before .before .before .before .before .before .before .before .before .before .before .before .before .before .before .loop .inv .0, (c .before .before .before .before .before .before .before .before .advance .kept .1 .1 .1 .1 .0 ∙ c .before .before .before .before .before .before .before .before .before .before .before .before .before .before .before .before .loop .inv .1 .0, (c .before .before .before .before .before .before .before .before .advance .kept .1 .1 .1 .1 .1 .0 ∙ c .before .before .before .before .before .before .before .before .before .before .before .before .before .before .before .before .loop .inv .1 .1 .0, turn-next (c .before .before .before .before .before .before .before .before .before .before .before .before .before .before .before .before .before .before .before .before .pre .0) (c .before .before .before .before .before .before .before .before .before .before .before .before .before .before .before .before .loop .inv .1 .1 .1) (c .before .before .before .before .before .before .before .before .before .before .before .before .before .if1 .taken) (c .before .before .before .before .before .before .before .before .advance .ensures) (c .left-of .ensures))))
 
--- src/lib.rt:78:1
 same-length : tie.Need-same-length Inv-loop μ-loop
 same-length c = search needs
 
--- src/lib.rt:78:1
 same-length-2 : tie.Need-same-length-2 Inv-loop μ-loop
 same-length-2 c = search needs
 
--- src/lib.rt:78:1
 same-length-3 : tie.Need-same-length-3 Inv-loop μ-loop
 same-length-3 c = search needs
 
--- src/lib.rt:78:1
 returns : tie.Need-returns Inv-loop μ-loop
 returns c = turn-last (c .before .before .before .before .before .before .before .pre .0) (c .before .before .before .loop .inv .1 .1 .1) (c .if1 .left)
 

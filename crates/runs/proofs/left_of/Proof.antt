@@ -1,21 +1,16 @@
+-- `runs::left_of` meets its contract. Assumes nothing.
 use Rattle.runs.proofs.Left.{left-taken, left-none}
 use mathlib.Core.Path.{sym, _∙_}
 use borrow.Author.Needs.{needs}
 use Rattle.runs.proofs.left_of.Statement.{statement}
 use Rattle.runs.proofs.left_of.Tie as tie
-use Rattle.runs.proofs.left_of.Reads as reads
-use Rattle.runs.proofs.left_of.Lts as lts
-use Rattle.refusals.proofs.is_running.Reads as is-running-reads
 
--- src/lib.rt:37:8
 is-running-requires : tie.Need-is-running-requires
 is-running-requires c κs = search needs
 
--- src/lib.rt:38:9
 returns : tie.Need-returns
 returns c = left-taken _ _ (sym (c .before .is-running .ensures) ∙ c .if1 .taken)
 
--- src/lib.rt:34:1
 returns-2 : tie.Need-returns-2
 returns-2 c = left-none _ _ (sym (c .before .is-running .ensures) ∙ c .if1 .left)
 

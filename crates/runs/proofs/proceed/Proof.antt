@@ -1,3 +1,4 @@
+-- `runs::proceed` meets its contract. Assumes nothing.
 use Rattle.runs.proofs.Whole.{able-fits, able-key, able-ready, proceeds}
 use Rattle.entries.proofs.Ranges.{pages-fit}
 use native.Mathlib.Omega.{arith}
@@ -5,57 +6,40 @@ use mathlib.Core.Path.{refl}
 use borrow.Author.Needs.{needs}
 use Rattle.runs.proofs.proceed.Statement.{statement}
 use Rattle.runs.proofs.proceed.Tie as tie
-use Rattle.runs.proofs.proceed.Reads as reads
-use Rattle.runs.proofs.proceed.Lts as lts
-use Rattle.entries.proofs.unpack_entries.Reads as unpack-entries-reads
-use Rattle.runs.proofs.go.Reads as go-reads
-use Rattle.runs.proofs.hold.Reads as hold-reads
 
--- src/lib.rt:113:27
 slice-aggregate-hold : tie.Need-slice-aggregate-hold
 slice-aggregate-hold c = search needs
 
--- src/lib.rt:113:5
 hold-requires : tie.Need-hold-requires
 hold-requires c κs = (able-fits (c .before .before .before .before .before .before .before .pre .0), refl)
 
--- src/lib.rt:114:47
 slice-aggregate-go : tie.Need-slice-aggregate-go
 slice-aggregate-go c = search needs
 
--- src/lib.rt:114:9
 go-requires : tie.Need-go-requires
 go-requires c κs = (able-ready (c .before .before .before .before .before .before .before .before .before .before .before .before .before .pre .0) (c .before .before .before .before .before .hold .ensures .0) (c .before .before .before .before .before .hold .ensures .1), able-key (c .before .before .before .before .before .before .before .before .before .before .before .before .before .pre .0) (c .before .before .before .before .before .before .before .before .before .before .before .before .before .pre .1))
 
--- src/lib.rt:116:28
 sub-steps : tie.Need-sub-steps
 sub-steps c = search needs
 
--- src/lib.rt:116:17
 add-steps : tie.Need-add-steps
 add-steps c = omega (arith, c .before .before .before .before .before .before .before .before .before .go .ensures .count, c .before .before .before .before .before .before .before .before .before .go .ensures .later, c .before .before .before .before .before .before .before .before .before .before .before .before .before .before .before .before .before .before .before .before .before .before .before .pre .0 .count, c .before .before .before .before .before .before .before .before .before .before .before .before .before .before .before .before .before .before .before .before .before .before .before .pre .0 .steps)
 
--- src/lib.rt:117:41
 slice-aggregate-unpack-entries : tie.Need-slice-aggregate-unpack-entries
 slice-aggregate-unpack-entries c = search needs
 
--- src/lib.rt:117:9
 unpack-entries-requires : tie.Need-unpack-entries-requires
 unpack-entries-requires c κs = (c .before .before .before .before .before .before .before .before .before .before .go .ensures .good .buffer, pages-fit _ _ (c .before .before .before .before .before .before .before .before .before .before .go .ensures .good .buffer) (c .before .before .before .before .before .before .before .before .before .before .go .ensures .good .entries))
 
--- src/lib.rt:118:16
 array-read-held : tie.Need-array-read-held
 array-read-held c = search needs
 
--- src/lib.rt:103:1
 same-length : tie.Need-same-length
 same-length c = search needs
 
--- src/lib.rt:103:1
 same-length-2 : tie.Need-same-length-2
 same-length-2 c = search needs
 
--- src/lib.rt:103:1
 returns : tie.Need-returns
 returns c = proceeds (c .before .before .before .before .before .before .before .before .before .before .before .before .before .before .before .before .before .before .before .before .before .before .before .before .before .pre .0) (c .before .before .before .before .before .before .before .before .before .before .before .before .before .before .before .before .before .hold .ensures .0) (c .before .before .before .before .before .before .before .before .before .before .before .before .before .before .before .before .before .hold .ensures .1) (c .before .before .before .before .before .before .before .before .before .before .before .go .ensures) _ (c .unpack-entries .ensures)
 

@@ -1,3 +1,4 @@
+-- `v9::run_packed` meets its contract. Assumes nothing.
 use Rattle.v9.proofs.UnderWay.{UnderWay, key-fits, under-start, under-next, under-end}
 use Rattle.v9.proofs.Packed.{packed-length}
 use Rattle.keys.specs.Packed.{unpacked}
@@ -7,12 +8,6 @@ use native.Mathlib.Omega.{arith}
 use mathlib.Core.Path.{_≡_, refl, sym, _∙_}
 use Rattle.v9.proofs.run_packed.Statement.{statement}
 use Rattle.v9.proofs.run_packed.Tie as tie
-use Rattle.v9.proofs.run_packed.Reads as reads
-use Rattle.v9.proofs.run_packed.Lts as lts
-use Rattle.keys.proofs.next_packed.Reads as next-packed-reads
-use Rattle.keys.proofs.rising_packed.Reads as rising-packed-reads
-use Rattle.runs.proofs.begin.Reads as begin-reads
-use Rattle.runs.proofs.proceed.Reads as proceed-reads
 
 abbrev Inv-loop : tie.InvT-loop
 Inv-loop mem₀ console₀ keys budget rising g₀ mem console g =
@@ -21,43 +16,33 @@ Inv-loop mem₀ console₀ keys budget rising g₀ mem console g =
 abbrev μ-loop : tie.MeasureT-loop
 μ-loop mem₀ console₀ keys budget rising g₀ mem console g = g .left
 
--- src/lib.rt:12:9
 rising-packed-requires : tie.Need-rising-packed-requires Inv-loop μ-loop
 rising-packed-requires c κs = search needs
 
--- src/lib.rt:13:9
 begin-requires : tie.Need-begin-requires Inv-loop μ-loop
 begin-requires c κs = search needs
 
--- src/lib.rt:14:5
 loop-holds : tie.Need-loop-holds Inv-loop μ-loop
 loop-holds c = (refl, (refl, under-start _ _ _ _ _ (c .before .rising-packed .ensures) (sym (packed-length _)) (c .begin .ensures)))
 
--- src/lib.rt:15:13
 next-packed-requires : tie.Need-next-packed-requires Inv-loop μ-loop
 next-packed-requires c κs = search needs
 
--- src/lib.rt:16:9
 proceed-requires : tie.Need-proceed-requires Inv-loop μ-loop
 proceed-requires c κs = (c .before .before .before .before .before .loop .inv .1 .1 .able (c .before .before .before .if1 .taken), key-fits (unpacked (c .before .before .before .before .before .before .before .before .before .before .before .args .keys .now)) _ (c .before .before .next-packed .ensures) (omega (arith, packed-length (c .before .before .before .before .before .before .before .before .before .before .before .args .keys .now), c .before .before .before .before .before .before .before .before .before .before .before .good .1 .1 .1 .0)))
 
--- src/lib.rt:14:5
 loop-less : tie.Need-loop-less Inv-loop μ-loop
 loop-less c = c .before .before .before .before .proceed .ensures .less
 
--- src/lib.rt:14:5
 loop-again : tie.Need-loop-again Inv-loop μ-loop
 loop-again c = (c .before .before .before .before .proceed .kept .1 .0 ∙ c .before .before .before .before .before .before .before .before .before .before .loop .inv .0, (c .before .before .before .before .proceed .kept .1 .1 .0 ∙ c .before .before .before .before .before .before .before .before .before .before .loop .inv .1 .0, under-next _ _ _ _ _ (c .before .before .before .before .before .before .before .before .before .before .loop .inv .1 .1) (c .before .before .before .before .before .before .before .next-packed .ensures) (c .before .before .before .before .proceed .ensures)))
 
--- src/lib.rt:8:1
 same-length : tie.Need-same-length Inv-loop μ-loop
 same-length c = search needs
 
--- src/lib.rt:8:1
 same-length-2 : tie.Need-same-length-2 Inv-loop μ-loop
 same-length-2 c = search needs
 
--- src/lib.rt:8:1
 returns : tie.Need-returns Inv-loop μ-loop
 returns c = under-end _ _ _ _ _ (c .before .before .before .before .before .rising-packed .ensures) (sym (packed-length _)) (c .before .before .before .before .begin .ensures) (c .before .before .before .loop .inv .1 .1) (c .before .if1 .left)
 
