@@ -48,16 +48,16 @@ module _ {g : Going} {m : List ℕ} (b : Able g (length m)) {l : List ℕ} (h : 
     pub counts-rise : g .ran .machine .cpu .regs .count ≤ a .cpu .regs .count
     counts-rise = omega (arith, t .later)
 
-    module _ (es : List Entry) (e : take (count l′) es ≡ held l′) where
-      first : firstSlots (count l′) es ≡ held l′
-      first = unpacked-first l′ es (t .good .buffer) e
+    module _ (es : List Entry) (e : take (count l′) es ≡ held l′) {n : ℕ} (c : n ≡ count l′) where
+      first : firstSlots n es ≡ held l′
+      first = rw c (unpacked-first l′ es (t .good .buffer) e)
 
       abbrev on : Going
       on = record {
         taken = a .cpu .clock .taken;
         left = a .left;
         ran = record {
-          machine = record { cpu = a .cpu; entries = es; held = count l′ };
+          machine = record { cpu = a .cpu; entries = es; held = n };
           answer = g .ran .answer;
           steps = g .ran .steps + (a .cpu .regs .count - g .ran .machine .cpu .regs .count);
         };

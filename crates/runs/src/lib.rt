@@ -115,7 +115,7 @@ pub fn proceed(g: Going, mem: &mut [u8], console: &mut [u8], next: Next) -> Goin
     let x = a.cpu;
     let steps = r.steps + (x.regs.count - c.regs.count);
     let slots = entries::unpack_entries(&tlb);
-    let held = tlb[64] as usize;
+    let held = buffer::count(&tlb);
     let machine = Machine {
         cpu: x,
         entries: slots,

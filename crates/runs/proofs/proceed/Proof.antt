@@ -31,8 +31,11 @@ slice-aggregate-unpack-entries c = search needs
 unpack-entries-requires : tie.Need-unpack-entries-requires
 unpack-entries-requires c κs = (c .before .before .before .before .before .before .before .before .before .before .go .ensures .good .buffer, pages-fit _ _ (c .before .before .before .before .before .before .before .before .before .before .go .ensures .good .buffer) (c .before .before .before .before .before .before .before .before .before .before .go .ensures .good .entries))
 
-array-read-held : tie.Need-array-read-held
-array-read-held c = search needs
+slice-aggregate-count : tie.Need-slice-aggregate-count
+slice-aggregate-count c = search needs
+
+count-requires : tie.Need-count-requires
+count-requires c κs = c .before .before .before .before .before .before .before .before .before .before .before .before .go .ensures .good .buffer
 
 same-length : tie.Need-same-length
 same-length c = search needs
@@ -41,7 +44,7 @@ same-length-2 : tie.Need-same-length-2
 same-length-2 c = search needs
 
 returns : tie.Need-returns
-returns c = proceeds (c .before .before .before .before .before .before .before .before .before .before .before .before .before .before .before .before .before .before .before .before .before .before .before .before .before .pre .0) (c .before .before .before .before .before .before .before .before .before .before .before .before .before .before .before .before .before .hold .ensures .0) (c .before .before .before .before .before .before .before .before .before .before .before .before .before .before .before .before .before .hold .ensures .1) (c .before .before .before .before .before .before .before .before .before .before .before .go .ensures) _ (c .unpack-entries .ensures)
+returns c = proceeds (c .before .before .before .before .before .before .before .before .before .before .before .before .before .before .before .before .before .before .before .before .before .before .before .before .before .before .before .pre .0) (c .before .before .before .before .before .before .before .before .before .before .before .before .before .before .before .before .before .before .before .hold .ensures .0) (c .before .before .before .before .before .before .before .before .before .before .before .before .before .before .before .before .before .before .before .hold .ensures .1) (c .before .before .before .before .before .before .before .before .before .before .before .before .before .go .ensures) _ (c .before .before .unpack-entries .ensures) (c .count .ensures)
 
 pub proceed-spec : {M : Type 1} → statement M
 proceed-spec =
@@ -55,7 +58,8 @@ proceed-spec =
     add-steps
     slice-aggregate-unpack-entries
     unpack-entries-requires
-    array-read-held
+    slice-aggregate-count
+    count-requires
     same-length
     same-length-2
     returns)
