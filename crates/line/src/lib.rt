@@ -1,5 +1,4 @@
 // Document 01, "Worked lines": the line that the run program prints.
-ghost use mathlib.Core.Path.{_≡_};
 ghost use Prim.Native.Nat.{_+_, _≤_};
 ghost use lib.ListN.{length};
 ghost use Rattle.rules.specs.Record.{stopNumber};
@@ -18,24 +17,12 @@ fn named(line: &mut [u8], at: usize, name: &[u8], n: u64) -> usize
     text::decimal(line, end, n)
 }
 
-// The number of a stop reason.
-fn reason(stop: Stop) -> u64
-    ensures { λ r. ⌜ r ≡ stopNumber stop ⌝ }
-{
-    match stop {
-        Stop::Running => 0,
-        Stop::Halted => 1,
-        Stop::Masked => 2,
-        Stop::NoFrame => 3,
-    }
-}
-
 // The line of an accepted load. The result is its length.
 pub fn stop_line(line: &mut [u8], stop: Stop, steps: u64, r: Regs) -> usize
     requires { ⌜ 169 ≤ length (now line) ⌝ }
     ensures { λ n. ⌜ Shows (stopLine (stopNumber stop) steps r) (now (line .exit)) n ⌝ }
 {
-    let end = named(line, 0, b"stop ", reason(stop));
+    let end = named(line, 0, b"stop ", rules::stop_number(stop) as u64);
     let end = named(line, end, b" steps ", steps);
     let end = named(line, end, b" a ", r.a as u64);
     let end = named(line, end, b" b ", r.b as u64);
