@@ -44,7 +44,7 @@ decimal-returns : (t : ℕ) → decimal-lts.Need-returns (
   decimal-below t,
   decimal.Post,
 ) (decimal-at t) decimal.Post
-decimal-returns t c = written-as (decimal-digit _ (c .before .before .before .before .if1 .taken)) (c .before .before .digit .ensures)
+decimal-returns t c = written-as (decimal-digit _ (omega (arith, c .before .before .before .before .if1 .taken))) (c .before .before .digit .ensures)
 
 decimal-decimal-requires : (t : ℕ) → decimal-lts.Need-decimal-requires (
   digit-reads.Asked,
