@@ -15,6 +15,7 @@ pub mod exec;
 pub mod expect;
 
 pub mod line;
+pub mod line_files;
 pub mod load;
 pub mod machine;
 pub mod mistake;

@@ -7,6 +7,7 @@ use reference::compare::{compare, Question, Verdict};
 use reference::coverage::Coverage;
 use reference::expect::expect;
 use reference::line::line;
+use reference::line_files;
 use reference::mistake::Mistake;
 use reference::mutants::Judge;
 use reference::random::executables::random_file;
@@ -28,7 +29,9 @@ const USAGE: &str = "usage:
   reference line < executable                   the run program's line
   reference random-file [--seed S] [--number N] random executable N of a seed
   reference random-files [--seed S] [--first F] [--count N]
-                                                many, each after its length (u32)";
+                                                many, each after its length (u32)
+  reference write-files                         executables, each with its length in front
+  reference lines < files                       the run program's line of each";
 
 type Done = Result<(), String>;
 
@@ -59,6 +62,8 @@ fn command(words: &[String]) -> Done {
         "line" => print_line(),
         "random-file" => print_file(seed, option(options, "--number", 0)?),
         "random-files" => print_files(seed, numbers),
+        "write-files" => write_files(),
+        "lines" => print_lines(),
         _ => Err(USAGE.to_string()),
     }
 }
@@ -130,10 +135,25 @@ fn print_comparison(seed: u64, numbers: Range<u64>) -> Done {
     Ok(())
 }
 
+fn input() -> Result<Vec<u8>, String> {
+    let mut bytes = Vec::new();
+    io::stdin().lock().read_to_end(&mut bytes).map_err(text)?;
+    Ok(bytes)
+}
+
 fn print_line() -> Done {
-    let mut file = Vec::new();
-    io::stdin().lock().read_to_end(&mut file).map_err(text)?;
-    println!("{}", line(&file));
+    println!("{}", line(&input()?));
+    Ok(())
+}
+
+fn write_files() -> Done {
+    io::stdout().lock().write_all(&line_files::stored()).map_err(text)
+}
+
+fn print_lines() -> Done {
+    for file in line_files::read(&input()?) {
+        println!("{}", line(file));
+    }
     Ok(())
 }
 
