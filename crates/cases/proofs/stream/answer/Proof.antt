@@ -1,14 +1,14 @@
--- `vectors::main` is safe and ends. Assumes nothing.
+-- `cases::stream::answer` is safe and ends. Assumes nothing.
 use Prim.Native.Nat.{_+_, _-_, _≤_, _<_}
 use borrow.Author.Needs.{needs}
-use Rattle.vectors.proofs.main.Statement.{statement}
-use Rattle.vectors.proofs.main.Tie as tie
+use Rattle.cases.proofs.stream.answer.Statement.{statement}
+use Rattle.cases.proofs.stream.answer.Tie as tie
 
 abbrev Inv-loop : tie.InvT-loop
-Inv-loop no₀ no' = Unit {0}
+Inv-loop single no₀ no' = Unit {0}
 
 abbrev μ-loop : tie.MeasureT-loop
-μ-loop no₀ no' = 1000000000 - no'
+μ-loop single no₀ no' = 1000000000 - no'
 
 loop-holds : tie.Need-loop-holds Inv-loop μ-loop
 loop-holds c = search needs
@@ -31,8 +31,8 @@ returns c = search needs
 returns-2 : tie.Need-returns-2 Inv-loop μ-loop
 returns-2 c = search needs
 
-pub main-spec : {M : Type 1} → statement M
-main-spec =
+pub answer-spec : {M : Type 1} → statement M
+answer-spec =
     tie.close
     (tie.spec
     Inv-loop

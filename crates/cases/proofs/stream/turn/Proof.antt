@@ -1,10 +1,10 @@
--- `vectors::turn` is safe and ends. Assumes nothing.
+-- `cases::stream::turn` is safe and ends. Assumes nothing.
 use lib.Seq.{length-take-le}
 use native.Mathlib.Omega.{arith}
 use mathlib.Core.Path.{sym}
 use borrow.Author.Needs.{needs}
-use Rattle.vectors.proofs.turn.Statement.{statement}
-use Rattle.vectors.proofs.turn.Tie as tie
+use Rattle.cases.proofs.stream.turn.Statement.{statement}
+use Rattle.cases.proofs.stream.turn.Tie as tie
 
 slice-aggregate-read-case : tie.Need-slice-aggregate-read-case
 slice-aggregate-read-case c = search needs

@@ -1,16 +1,16 @@
--- `vectors::runs::run_list` is safe and ends. Assumes nothing.
+-- `cases::lists::run_list` is safe and ends. Assumes nothing.
 use Prim.Native.Nat.{_+_, _-_, _≤_, _<_}
 use lib.ListN.{length}
 use mathlib.Core.Path.{_≡_, refl}
 use borrow.Author.Needs.{needs}
-use Rattle.vectors.proofs.lists.run_list.Statement.{statement}
-use Rattle.vectors.proofs.lists.run_list.Tie as tie
+use Rattle.cases.proofs.lists.run_list.Statement.{statement}
+use Rattle.cases.proofs.lists.run_list.Tie as tie
 
 abbrev Inv-loop : tie.InvT-loop
-Inv-loop s from count no' mem₀ con₀ out₀ m₀ at₀ p₀ i₀ mem con out m at p i = (length mem ≡ length mem₀) × (length con ≡ length con₀) × (length out ≡ length out₀)
+Inv-loop s from count no' single mem₀ con₀ out₀ m₀ at₀ p₀ i₀ mem con out m at p i = (length mem ≡ length mem₀) × (length con ≡ length con₀) × (length out ≡ length out₀)
 
 abbrev μ-loop : tie.MeasureT-loop
-μ-loop s from count no' mem₀ con₀ out₀ m₀ at₀ p₀ i₀ mem con out m at p i = count - i
+μ-loop s from count no' single mem₀ con₀ out₀ m₀ at₀ p₀ i₀ mem con out m at p i = count - i
 
 machine-of-requires : tie.Need-machine-of-requires Inv-loop μ-loop
 machine-of-requires c κs = search needs

@@ -1,9 +1,9 @@
--- `vectors::runs::run_case` is safe and ends. Assumes nothing.
+-- `cases::lists::run_case` is safe and ends. Assumes nothing.
 use lib.Seq.{length-take-le}
 use mathlib.Core.Path.{sym}
 use borrow.Author.Needs.{needs}
-use Rattle.vectors.proofs.lists.run_case.Statement.{statement}
-use Rattle.vectors.proofs.lists.run_case.Tie as tie
+use Rattle.cases.proofs.lists.run_case.Statement.{statement}
+use Rattle.cases.proofs.lists.run_case.Tie as tie
 
 place-requires : tie.Need-place-requires
 place-requires c κs = search needs

@@ -1,10 +1,10 @@
--- `vectors::read_case` is safe and ends. Assumes nothing.
+-- `cases::stream::read_case` is safe and ends. Assumes nothing.
 use lib.Seq.{length-take-le}
 use native.Mathlib.Omega.{arith}
 use mathlib.Core.Path.{sym}
 use borrow.Author.Needs.{needs}
-use Rattle.vectors.proofs.read_case.Statement.{statement}
-use Rattle.vectors.proofs.read_case.Tie as tie
+use Rattle.cases.proofs.stream.read_case.Statement.{statement}
+use Rattle.cases.proofs.stream.read_case.Tie as tie
 
 returns : tie.Need-returns
 returns c = search needs
