@@ -26,11 +26,11 @@ module _ (l : List ℕ) (i p : ℕ) (k : Access) (user : Bool) where
   slot-past h = rw (le-ltb _ _ h)
 
   module _ (h : i < count l) {s : Bool} (q : s ≡ serves here k user) where
-    pub slot-serves : eqb (getD l i 0 / 131072) p && s ≡ true → Frame (getD l i 0 / 4 % 32768) ≡ slotHit l i p k user
+    pub slot-serves : eqb (getD l i 0 / 4294967296) p && s ≡ true → Frame (getD l i 0 / 4096 % 32768) ≡ slotHit l i p k user
     unfolding slotHit
     slot-serves e = rw (lt-ltb _ _ h, ← q, e)
 
-    pub slot-refuses : eqb (getD l i 0 / 131072) p && s ≡ false → Miss ≡ slotHit l i p k user
+    pub slot-refuses : eqb (getD l i 0 / 4294967296) p && s ≡ false → Miss ≡ slotHit l i p k user
     unfolding slotHit
     slot-refuses e = rw (lt-ltb _ _ h, ← q, e)
 

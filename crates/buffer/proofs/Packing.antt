@@ -17,12 +17,12 @@ unfolding bit
 bit-bool k n true e = eq-eqb _ _ e
 bit-bool k n false e = ne-eqb _ _ (λ (q : n / k % 2 ≡ 1). omega arith)
 
-pub pack-is : (p f : ℕ) (u w : Bool) → f < 32768 → unpack (p * 131072 + (f * 4 + (boolByte u * 2 + boolByte w))) ≡ entry p f u w
+pub pack-is : (p f : ℕ) (u w : Bool) → f < 32768 → unpack (p * 4294967296 + (f * 4096 + (boolByte u * 2 + boolByte w))) ≡ entry p f u w
 pack-is p f u w h =
-    let n = p * 131072 + (f * 4 + (boolByte u * 2 + boolByte w)) in
+    let n = p * 4294967296 + (f * 4096 + (boolByte u * 2 + boolByte w)) in
     let bu = bool-le u in let bw = bool-le w in
-    let e1 : n / 131072 ≡ p = omega arith in
-    let e2 : n / 4 % 32768 ≡ f = omega arith in
+    let e1 : n / 4294967296 ≡ p = omega arith in
+    let e2 : n / 4096 % 32768 ≡ f = omega arith in
     let e3 : bit 2 n ≡ u = bit-bool 2 n u (omega arith) in
     let e4 : bit 1 n ≡ w = bit-bool 1 n w (omega arith) in
     cc

@@ -30,10 +30,10 @@ module _ (p : ℕ) (es : List Entry) (i : ℕ) (h : Passed p es i) where
   index-end l = h ∙ rw (drop-of-length-le es l) (add-zero i)
 
 module _ (l : List ℕ) (p i : ℕ) (b : Buffer l) (h : Passed p (held l) i) where
-  pub search-here : i < count l → getD l i 0 / 131072 ≡ p → i ≡ indexOf p (held l)
+  pub search-here : i < count l → getD l i 0 / 4294967296 ≡ p → i ≡ indexOf p (held l)
   search-here k e = sym (index-here p (held l) i h (rw (length-held l b) k) (ap (λ (x : Entry). x .page) (held-at l i k) ∙ e))
 
-  pub search-next : i < count l → (getD l i 0 / 131072 ≡ p → ⊥) → Passed p (held l) (i + 1)
+  pub search-next : i < count l → (getD l i 0 / 4294967296 ≡ p → ⊥) → Passed p (held l) (i + 1)
   search-next k e = index-next p (held l) i h (rw (length-held l b) k) (λ q. e (sym (ap (λ (x : Entry). x .page) (held-at l i k)) ∙ q))
 
   pub search-end : count l ≤ i → i ≡ indexOf p (held l)

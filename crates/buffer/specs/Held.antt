@@ -25,9 +25,9 @@ count l = getD l 64 0
 abbrev pub entry : ℕ → ℕ → Bool → Bool → Entry
 entry p f u w = record { page = p; frame = f; user = u; write = w }
 
--- the entry of a slot: page * 131072 + frame * 4 + user right * 2 + write right
+-- the entry of a slot: page * 4294967296 + frame * 4096 + user right * 2 + write right
 abbrev pub unpack : ℕ → Entry
-unpack w = entry (w / 131072) (w / 4 % 32768) (bit 2 w) (bit 1 w)
+unpack w = entry (w / 4294967296) (w / 4096 % 32768) (bit 2 w) (bit 1 w)
 
 -- the counted entries, in order
 unfoldable pub held : List ℕ → List Entry

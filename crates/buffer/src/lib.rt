@@ -18,17 +18,17 @@ pub fn pack(page: u32, frame: u32, user: bool, write: bool) -> u64
     requires { ⌜ frame < 32768 ⌝ }
     ensures { λ r. ⌜ unpack r ≡ entry page frame user write ⌝ }
 {
-    page as u64 * 131072 + (frame as u64 * 4 + (user as u64 * 2 + write as u64))
+    page as u64 * 4294967296 + (frame as u64 * 4096 + (user as u64 * 2 + write as u64))
 }
 
 // The entry of a number.
 pub fn unpack(e: u64) -> Entry
-    requires { ⌜ e / 131072 < 1048576 ⌝ }
+    requires { ⌜ e / 4294967296 < 1048576 ⌝ }
     ensures { λ r. ⌜ r ≡ unpack e ⌝ }
 {
     Entry {
-        page: (e / 131072) as u32,
-        frame: (e / 4 % 32768) as u32,
+        page: (e / 4294967296) as u32,
+        frame: (e / 4096 % 32768) as u32,
         user: e / 2 % 2 == 1,
         write: e / 1 % 2 == 1,
     }
@@ -59,9 +59,9 @@ pub fn slot(tlb: &[u64], i: usize, page: u64, kind: Access, user: bool) -> Hit
         return Hit::Miss;
     }
     let e = tlb[i];
-    let ok = (e / 131072 == page) & serves(e, kind, user);
+    let ok = (e / 4294967296 == page) & serves(e, kind, user);
     if ok {
-        Hit::Frame((e / 4 % 32768) as u32)
+        Hit::Frame((e / 4096 % 32768) as u32)
     } else {
         Hit::Miss
     }
@@ -75,7 +75,7 @@ pub fn lookup(tlb: &[u64], page: u64) -> usize
     let n = count(tlb);
     let mut i = 0;
     while i < n {
-        if tlb[i] / 131072 == page {
+        if tlb[i] / 4294967296 == page {
             return i;
         }
         i += 1;
@@ -85,7 +85,7 @@ pub fn lookup(tlb: &[u64], page: u64) -> usize
 
 // Keeps an entry whose page was looked up at `i`: in the place of the same page's, or after the others, or alone where there is no more room.
 pub fn keep(tlb: &mut [u64], i: usize, e: u64)
-    requires { ⌜ Buffer (now tlb) × (i ≡ indexOf (e / 131072) (held (now tlb))) ⌝ }
+    requires { ⌜ Buffer (now tlb) × (i ≡ indexOf (e / 4294967296) (held (now tlb))) ⌝ }
     ensures { λ _. ⌜ (held (now (tlb .exit)) ≡ keep (unpack e) (held (now (tlb .entry)))) × Buffer (now (tlb .exit)) ⌝ }
 {
     let n = count(tlb);

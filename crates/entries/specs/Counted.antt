@@ -24,4 +24,4 @@ FramesFit n es = (i : ℕ) → i < n → getD es i (entry 0 0 false false) .fram
 
 -- the page of each counted entry of a lent array is one of 2^20
 abbrev pub PagesFit : List ℕ → Type 0
-PagesFit l = (i : ℕ) → i < count l → getD l i 0 / 131072 < 1048576
+PagesFit l = (i : ℕ) → i < count l → getD l i 0 / 4294967296 < 1048576

@@ -6,9 +6,9 @@ ghost use Rattle.memory.specs.Memory.{loadN, storeN, bytes, sizeOk};
 
 // The size of an access.
 pub enum Size {
-    Word,
-    Half,
     Byte,
+    Half,
+    Word,
 }
 
 // One byte.

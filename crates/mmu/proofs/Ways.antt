@@ -69,8 +69,8 @@ frame-small m pdir page k user {l} {m′} {r} {f} g p e =
     omega (arith, g .directory .small)
 
 -- an entry is kept where its page was looked up
-pub kept-at : (es : List Entry) (e : ℕ) {i p f : ℕ} {u w : Bool} → unpack e ≡ entry p f u w → i ≡ indexOf p es → i ≡ indexOf (e / 131072) es
-kept-at es e {i} {p} k h = let s : e / 131072 ≡ p = ap (λ (x : Entry). x .page) k in rw s h
+pub kept-at : (es : List Entry) (e : ℕ) {i p f : ℕ} {u w : Bool} → unpack e ≡ entry p f u w → i ≡ indexOf p es → i ≡ indexOf (e / 4294967296) es
+kept-at es e {i} {p} k h = let s : e / 4294967296 ≡ p = ap (λ (x : Entry). x .page) k in rw s h
 
 module _ (pdir : ℕ) (q : Request) (m l : List ℕ) (g : Good (length m) pdir l) (small : q .addr < 4294967296)
     {r : PageWalk} {m′ : List ℕ} (p : walked r m′ ≡ walkedBy (walk m pdir (q .addr / 4096) (q .kind) (q .user))) where
