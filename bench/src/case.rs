@@ -1,17 +1,20 @@
-//! The case format of `reference/FORMAT.md`, as far as the workloads use it: cases are written, read, and their result lines printed.
+//! The format of `reference/FORMAT.md`: cases are written and read, and run in the plain interpreter.
 
-use crate::plain::{Entry, Key, Machine};
+use crate::plain::{load, Entry, Key, Machine, Outcome};
 
-/// Bytes placed in memory at an address.
-pub type Chunk = (u32, Vec<u8>);
-
-/// One machine and a list of budgets; no keys.
-pub struct Case {
-    pub machine: Machine,
-    pub chunks: Vec<Chunk>,
-    pub budgets: Vec<u64>,
+/// A run's keys and budget.
+pub struct Run {
+    pub keys: Vec<Key>,
+    pub budget: u64,
 }
 
+/// One machine, and runs that are handed on.
+pub struct Case {
+    pub machine: Machine,
+    pub runs: Vec<Run>,
+}
+
+/// The bytes of a case that starts with an empty page buffer and an empty console.
 pub fn encode(case: &Case) -> Vec<u8> {
     let machine = &case.machine;
     let mut body = Vec::new();
@@ -19,9 +22,7 @@ pub fn encode(case: &Case) -> Vec<u8> {
     word(1);
     word(machine.memory.len() as u32);
     word(machine.console.len() as u32);
-    for value in registers(machine) {
-        word(value);
-    }
+    registers(machine).into_iter().for_each(&mut word);
     let flags = [machine.user, machine.iena, machine.paging, machine.waiting];
     word(u32::from_le_bytes(flags.map(u8::from)));
     word(machine.stop);
@@ -29,17 +30,17 @@ pub fn encode(case: &Case) -> Vec<u8> {
         word(value as u32);
         word((value >> 32) as u32);
     }
-    for value in [0, 0, case.chunks.len() as u32, 0, case.budgets.len() as u32] {
-        word(value);
-    }
-    for (at, bytes) in &case.chunks {
-        body.extend_from_slice(&at.to_le_bytes());
-        body.extend_from_slice(&(bytes.len() as u32).to_le_bytes());
-        body.extend_from_slice(bytes);
-    }
-    for budget in &case.budgets {
-        body.extend_from_slice(&0u32.to_le_bytes());
-        body.extend_from_slice(&budget.to_le_bytes());
+    // no entries, no slots, one chunk with all of memory, no console bytes
+    let counts = [0, 0, 1, 0, case.runs.len() as u32];
+    counts.into_iter().chain([0, machine.memory.len() as u32]).for_each(word);
+    body.extend_from_slice(&machine.memory);
+    for run in &case.runs {
+        body.extend_from_slice(&(run.keys.len() as u32).to_le_bytes());
+        for key in &run.keys {
+            body.extend_from_slice(&key.step.to_le_bytes());
+            body.push(key.byte);
+        }
+        body.extend_from_slice(&run.budget.to_le_bytes());
     }
     let mut out = ((body.len() + 4) as u32).to_le_bytes().to_vec();
     out.extend_from_slice(&body);
@@ -50,70 +51,120 @@ fn registers(m: &Machine) -> [u32; 13] {
     [m.a, m.b, m.c, m.sp, m.usp, m.ksp, m.pc, m.ivec, m.pdir, m.vadr, m.timer, m.timeout, m.kbchar]
 }
 
-/// Reads the first case of a file that `encode` wrote.
-pub fn decode(bytes: &[u8]) -> Case {
-    let word = |at: usize| u32::from_le_bytes(bytes[at..at + 4].try_into().unwrap());
-    let long = |at: usize| u64::from_le_bytes(bytes[at..at + 8].try_into().unwrap());
-    let mut machine = Machine {
-        a: word(16),
-        b: word(20),
-        c: word(24),
-        sp: word(28),
-        usp: word(32),
-        ksp: word(36),
-        pc: word(40),
-        ivec: word(44),
-        pdir: word(48),
-        vadr: word(52),
-        timer: word(56),
-        timeout: word(60),
-        kbchar: word(64),
-        user: bytes[68] != 0,
-        iena: bytes[69] != 0,
-        paging: bytes[70] != 0,
-        waiting: bytes[71] != 0,
-        stop: word(72),
-        count: long(76),
-        taken: long(84) as usize,
-        written: long(92) as usize,
-        held: 0,
-        entries: [Entry::default(); 64],
-        memory: vec![0; word(8) as usize],
-        console: vec![0; word(12) as usize],
-    };
-    let mut at = 120;
-    for _ in 0..word(108) {
-        let (start, len) = (word(at) as usize, word(at + 4) as usize);
-        machine.memory[start..start + len].copy_from_slice(&bytes[at + 8..at + 8 + len]);
-        at += 8 + len;
+/// Bytes read from the front.
+struct Reader<'a>(&'a [u8]);
+
+impl<'a> Reader<'a> {
+    fn bytes(&mut self, count: usize) -> &'a [u8] {
+        let (first, rest) = self.0.split_at(count);
+        self.0 = rest;
+        first
     }
-    let budgets = (0..word(116) as usize).map(|run| long(at + 12 * run + 4)).collect();
-    Case { machine, chunks: Vec::new(), budgets }
+    fn words<const N: usize>(&mut self) -> [u32; N] {
+        std::array::from_fn(|_| u32::from_le_bytes(self.bytes(4).try_into().unwrap()))
+    }
+    fn sizes<const N: usize>(&mut self) -> [usize; N] {
+        self.words().map(|word| word as usize)
+    }
+    fn longs<const N: usize>(&mut self) -> [u64; N] {
+        std::array::from_fn(|_| u64::from_le_bytes(self.bytes(8).try_into().unwrap()))
+    }
 }
 
-/// Runs a case in the plain interpreter and gives its result lines.
-pub fn result_lines(mut case: Case) -> String {
-    let no_keys: &[Key] = &[];
+/// A case of runs, after its kind.
+fn decode(from: &mut Reader) -> Case {
+    let [memory, console] = from.sizes().map(|size| vec![0; size]);
+    let zero = Machine::zero(memory, console);
+    let [a, b, c, sp, usp, ksp, pc, ivec, pdir, vadr, timer, timeout, kbchar] = from.words();
+    let zero =
+        Machine { a, b, c, sp, usp, ksp, pc, ivec, pdir, vadr, timer, timeout, kbchar, ..zero };
+    let [user, iena, paging, waiting] = [0, 1, 2, 3].map(|at| from.0[at] != 0);
+    let [_, stop] = from.words();
+    let [count, taken, written] = from.longs();
+    let [taken, written] = [taken, written].map(|number| number as usize);
+    let mut m = Machine { user, iena, paging, waiting, stop, count, taken, written, ..zero };
+    let [held, slots, chunks, given, runs] = from.sizes();
+    m.held = held;
+    for entry in &mut m.entries[..slots] {
+        let [page, frame, user, write] = from.words();
+        *entry = Entry { page, frame, user: user != 0, write: write != 0 };
+    }
+    for _ in 0..chunks {
+        let [at, length] = from.sizes();
+        m.memory[at..at + length].copy_from_slice(from.bytes(length));
+    }
+    m.console[..given].copy_from_slice(from.bytes(given));
+    Case { machine: m, runs: (0..runs).map(|_| decode_run(from)).collect() }
+}
+
+fn decode_run(from: &mut Reader) -> Run {
+    let [count] = from.sizes();
+    let key = |from: &mut Reader| {
+        let [step] = from.longs();
+        Key { step, byte: from.bytes(1)[0] }
+    };
+    let keys = (0..count).map(|_| key(from)).collect();
+    let [budget] = from.longs();
+    Run { keys, budget }
+}
+
+/// The lines of all cases of a file; with `by_step` each run is made in calls of budget 1.
+pub fn result_lines(bytes: &[u8], by_step: bool) -> String {
+    let mut rest = Reader(bytes);
     let mut out = String::new();
-    for (number, budget) in case.budgets.iter().enumerate() {
-        let steps = case.machine.run(no_keys, *budget);
-        out.push_str(&line(number, steps, &case.machine));
+    for number in 0.. {
+        let [length] = if rest.0.is_empty() { [0] } else { rest.sizes() };
+        if length == 0 {
+            break;
+        }
+        let mut from = Reader(rest.bytes(length - 4));
+        let [kind] = from.words();
+        if kind == 1 {
+            run_lines(number, decode(&mut from), by_step, &mut out);
+        } else {
+            let [size, fill, length] = from.sizes();
+            let (answer, machine) = load(from.bytes(length), vec![fill as u8; size]);
+            out.push_str(&line([number, 0], Outcome { answer, steps: 0 }, &machine));
+        }
     }
     out
 }
 
-fn line(number: usize, steps: u64, m: &Machine) -> String {
-    let mut numbers: Vec<u64> = vec![0, number as u64, 0, steps];
+fn run_lines(number: usize, case: Case, by_step: bool, out: &mut String) {
+    let mut machine = case.machine;
+    for (at, run) in case.runs.iter().enumerate() {
+        let outcome = if by_step {
+            calls_of_one(&mut machine, run)
+        } else {
+            machine.run(&run.keys, run.budget)
+        };
+        out.push_str(&line([number, at], outcome, &machine));
+    }
+}
+
+/// Calls of budget 1, as many as the budget has steps, to the first that makes none.
+fn calls_of_one(machine: &mut Machine, run: &Run) -> Outcome {
+    let mut all = Outcome { answer: 0, steps: 0 };
+    for _ in 0..run.budget {
+        let one = machine.run(&run.keys, 1);
+        all = Outcome { answer: one.answer, steps: all.steps + one.steps };
+        if one.steps == 0 {
+            break;
+        }
+    }
+    all
+}
+
+fn line(place: [usize; 2], outcome: Outcome, m: &Machine) -> String {
+    let mut numbers: Vec<u64> = place.map(|number| number as u64).to_vec();
+    numbers.extend([outcome.answer as u64, outcome.steps]);
     numbers.extend(registers(m).map(u64::from));
     numbers.extend([m.user, m.iena, m.paging, m.waiting].map(u64::from));
     numbers.extend([m.stop as u64, m.count, m.taken as u64, m.written as u64, m.held as u64]);
-    for entry in &m.entries[..m.held] {
-        numbers.extend([
-            entry.page as u64,
-            entry.frame as u64,
-            entry.user as u64,
-            entry.write as u64,
-        ]);
+    for entry in &m.entries[..m.held.min(64)] {
+        let rights = [entry.user, entry.write].map(u64::from);
+        numbers.extend([entry.page as u64, entry.frame as u64]);
+        numbers.extend(rights);
     }
     for bytes in [&m.memory, &m.console] {
         numbers.push(digest(bytes, 1000003, 4294967311));

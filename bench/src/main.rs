@@ -1,103 +1,153 @@
-//! `bench EMULATOR PLAIN [--count]`: runs both programs on the workloads, interleaved, compares their results, and prints ns a step and, with
-//! `--count`, instructions a step (valgrind's callgrind), each the difference of two step counts, with their ratios.
+//! `bench VECTORS BY_STEP PLAIN`: runs the emulator's programs and the plain one on the workloads, in turn, fails where their results differ, and prints ns
+//! and instructions a step with their ratios.
+//! `bench --instructions VECTORS BY_STEP`: of the emulator's programs alone, a workload a line: its name, instructions a step, the result.
 
-use bench::{case, workload};
-use std::fs;
-use std::io::Write;
-use std::path::Path;
-use std::process::{Command, Stdio};
-use std::time::Instant;
+use bench::measure::{held_after_whole_runs, instructions, lines, nanoseconds, Program};
+use bench::measure::{COUNTED, LONG, RUNS, SHORT};
+use bench::workload::{all, growths, Workload};
+use std::error::Error;
 
-const SHORT: u64 = 2_000_000;
-const LONG: u64 = 22_000_000;
 const ROUNDS: usize = 5;
 
-fn main() -> Result<(), Box<dyn std::error::Error>> {
-    let words: Vec<String> = std::env::args().skip(1).collect();
-    let [programs @ .., _] = &words[..] else {
-        return Err("usage: bench EMULATOR PLAIN [--count]".into());
-    };
-    let count = words.last().is_some_and(|word| word == "--count");
-    let programs = if count { programs } else { &words[..] };
-    let [emulator, plain] = programs else {
-        return Err("usage: bench EMULATOR PLAIN [--count]".into());
-    };
-    println!("{:<34}{:>10}{:>10}{:>8}", "workload", "emulator", "plain", "ratio");
-    for work in workload::all() {
-        let short = case::encode(&workload::case(&work, SHORT));
-        let long = case::encode(&workload::case(&work, LONG));
-        if run(emulator, &long)?.0 != run(plain, &long)?.0 {
-            return Err(format!("{}: the two programs differ", work.name).into());
-        }
-        let [mut first, mut second] = [f64::INFINITY; 2];
-        for _ in 0..ROUNDS {
-            first = first.min(nanoseconds(emulator, &short, &long)?);
-            second = second.min(nanoseconds(plain, &short, &long)?);
-        }
-        println!("{:<34}{first:>8.2}ns{second:>8.2}ns{:>8.2}", work.name, first / second);
-        if count {
-            let [first, second] = [instructions(emulator, &work)?, instructions(plain, &work)?];
-            println!(
-                "{:<34}{first:>10.1}{second:>10.1}{:>8.2}",
-                "    instructions",
-                first / second
-            );
+/// The emulator's two programs and the plain one.
+struct Programs {
+    whole: Program,
+    by_step: Program,
+    plain: Program,
+}
+
+impl Programs {
+    fn emulator(&self, work: &Workload) -> &Program {
+        if work.by_step {
+            &self.by_step
+        } else {
+            &self.whole
         }
     }
+
+    fn plain(&self, work: &Workload) -> Program {
+        let mut plain = self.plain.clone();
+        plain.0.extend(work.by_step.then(|| "--by-step".to_string()));
+        plain
+    }
+}
+
+/// What one workload costs a step, the emulator first.
+struct Cost {
+    nanoseconds: [f64; 2],
+    instructions: [f64; 2],
+}
+
+fn main() -> Result<(), Box<dyn Error>> {
+    let words: Vec<String> = std::env::args().skip(1).collect();
+    let program = |at: usize| Program(vec![words[at].clone()]);
+    match words.len() {
+        3 if words[0] == "--instructions" => {
+            let plain = Program(Vec::new());
+            print_instructions(&Programs { whole: program(1), by_step: program(2), plain })
+        }
+        3 => compare(&Programs { whole: program(0), by_step: program(1), plain: program(2) }),
+        _ => {
+            Err("usage: bench VECTORS BY_STEP PLAIN, or bench --instructions VECTORS BY_STEP"
+                .into())
+        }
+    }
+}
+
+fn compare(programs: &Programs) -> Result<(), Box<dyn Error>> {
+    println!("machine: {}", machine()?);
+    print_how();
+    println!("{:<34}{:>25}{:>26}", "", "ns a step", "instructions a step");
+    print!("{:<34}", "workload");
+    println!(
+        "{0:>10}{1:>8}{2:>7}  {0:>10}{1:>8}{2:>7}{3:>9}",
+        "emulator", "plain", "ratio", "entries"
+    );
+    let mut missed = Vec::new();
+    for work in all() {
+        let cost = measured(programs, &work)?;
+        missed.extend(misses(&work, &cost));
+    }
+    for growth in growths() {
+        let few = measured(programs, &growth.few)?;
+        let many = measured(programs, &growth.many)?;
+        println!(
+            "    growth with {}, of the emulator: time {:.2}, instructions {:.3}",
+            growth.what,
+            many.nanoseconds[0] / few.nanoseconds[0],
+            many.instructions[0] / few.instructions[0]
+        );
+    }
+    println!("all results are equal");
+    println!("more than 0.8 of the time (paged 0.6) or 0.6 of the instructions, calls of budget 1 apart: {}", list(&missed));
     Ok(())
 }
 
-/// A program's output for a case, and the seconds it took.
-fn run(program: &str, input: &[u8]) -> Result<(Vec<u8>, f64), Box<dyn std::error::Error>> {
-    let start = Instant::now();
-    let mut child = Command::new(program).stdin(Stdio::piped()).stdout(Stdio::piped()).spawn()?;
-    child.stdin.take().ok_or("no standard input")?.write_all(input)?;
-    let output = child.wait_with_output()?.stdout;
-    Ok((output, start.elapsed().as_secs_f64()))
+fn print_how() {
+    println!("buffers: each measurement is a fresh process with a fresh machine: memory is zero but for the program and the page tables, the page buffer is");
+    println!("    empty. The runs of one process are handed on, with the page buffer as the run before left it. The processor's caches are not cleared.");
+    println!("ns a step: time on the processor, the least of {ROUNDS} rounds, both programs in turn; {RUNS} runs of {LONG} steps less {RUNS} runs of {SHORT}.");
+    println!("instructions a step: callgrind, a run of {COUNTED} steps less a run of {SHORT}.");
+    println!("calls of budget 1: {LONG} of them; what a call itself costs is in it. The emulator's record goes in and comes out by value, document 01's");
+    println!("    refusals are tried, and the page buffer is packed into an array and back. The plain interpreter tries the refusals; its record stays.");
 }
 
-fn nanoseconds(
-    program: &str,
-    short: &[u8],
-    long: &[u8],
-) -> Result<f64, Box<dyn std::error::Error>> {
-    let (_, less) = run(program, short)?;
-    let (_, more) = run(program, long)?;
-    Ok((more - less) * 1e9 / (LONG - SHORT) as f64)
+/// Compares the results of a workload, measures it and prints its line.
+fn measured(programs: &Programs, work: &Workload) -> Result<Cost, Box<dyn Error>> {
+    let (emulator, plain) = (programs.emulator(work), &programs.plain(work));
+    let result = lines(emulator, work)?;
+    if result != lines(plain, work)? {
+        return Err(format!("{}: the results differ", work.name).into());
+    }
+    let held = held_after_whole_runs(&result).ok_or("a run was refused, or stopped early")?;
+    let mut least = [f64::INFINITY; 2];
+    for _ in 0..ROUNDS {
+        for (least, program) in least.iter_mut().zip([emulator, plain]) {
+            *least = least.min(nanoseconds(program, work)?);
+        }
+    }
+    let counts = [instructions(emulator, work)?.0, instructions(plain, work)?.0];
+    let cost = Cost { nanoseconds: least, instructions: counts };
+    print!("{:<34}", work.name);
+    for [emulator, plain] in [cost.nanoseconds, cost.instructions] {
+        print!("{emulator:>10.2}{plain:>8.2}{:>7.2}  ", emulator / plain);
+    }
+    println!("{held:>7}");
+    Ok(cost)
 }
 
-/// Instructions a step, from runs of 1,000,000 and 2,000,000 steps.
-fn instructions(
-    program: &str,
-    work: &workload::Workload,
-) -> Result<f64, Box<dyn std::error::Error>> {
-    let [less, more] = [1_000_000, 2_000_000]
-        .map(|steps| counted(program, &case::encode(&workload::case(work, steps))));
-    // each further run prints one line and digests memory once: both programs pay it in the difference
-    Ok((more? - less?) / 1e6)
+/// Which targets a workload misses.
+fn misses(work: &Workload, cost: &Cost) -> Vec<String> {
+    let ratio = |[emulator, plain]: [f64; 2]| emulator / plain;
+    let time = if work.paged { 0.6 } else { 0.8 };
+    let found = [
+        (ratio(cost.nanoseconds) > time, "time"),
+        (ratio(cost.instructions) > 0.6, "instructions"),
+    ];
+    let found = found.iter().filter(|(missed, _)| *missed && !work.by_step);
+    found.map(|(_, what)| format!("{} ({what})", work.name)).collect()
 }
 
-fn counted(program: &str, input: &[u8]) -> Result<f64, Box<dyn std::error::Error>> {
-    let folder = std::env::temp_dir();
-    let file = folder.join(format!("bench-{}.callgrind", std::process::id()));
-    let out = format!("--callgrind-out-file={}", file.display());
-    let mut child = Command::new("valgrind")
-        .args(["--tool=callgrind", &out, program])
-        .stdin(Stdio::piped())
-        .stdout(Stdio::null())
-        .stderr(Stdio::null())
-        .spawn()?;
-    child.stdin.take().ok_or("no standard input")?.write_all(input)?;
-    child.wait()?;
-    total(&file)
+fn list(missed: &[String]) -> String {
+    if missed.is_empty() {
+        "none".to_string()
+    } else {
+        missed.join("; ")
+    }
 }
 
-fn total(file: &Path) -> Result<f64, Box<dyn std::error::Error>> {
-    let text = fs::read_to_string(file)?;
-    fs::remove_file(file)?;
-    let line = text
-        .lines()
-        .rev()
-        .find_map(|line| line.strip_prefix("totals: ").or(line.strip_prefix("summary: ")));
-    Ok(line.ok_or("no total")?.trim().parse()?)
+fn machine() -> Result<String, Box<dyn Error>> {
+    let text = std::fs::read_to_string("/proc/cpuinfo")?;
+    let model = text.lines().find_map(|line| line.strip_prefix("model name")?.split_once(": "));
+    let cores = std::thread::available_parallelism()?;
+    Ok(format!("{}, {cores} cores", model.map_or("unknown processor", |(_, name)| name)))
+}
+
+fn print_instructions(programs: &Programs) -> Result<(), Box<dyn Error>> {
+    let growths = growths().into_iter().flat_map(|growth| [growth.few, growth.many]);
+    for work in all().into_iter().chain(growths) {
+        let (count, line) = instructions(programs.emulator(&work), &work)?;
+        print!("{}\t{count:.3}\t{line}", work.name);
+    }
+    Ok(())
 }

@@ -1,162 +1,117 @@
-//! The workloads: small v9 programs, with the machine that they start in.
+//! The workloads: a program, and the machine that it starts in.
 
-use crate::case::{Case, Chunk};
-use crate::plain::{Entry, Machine};
+use crate::case::{Case, Run};
+use crate::opcode::{op, RTI};
+use crate::plain::Machine;
+use crate::program::{
+    arithmetic, copy_16_kib, mixed, pages, repeated, touched, transfers, FAR_PAGE,
+};
 
 pub struct Workload {
     pub name: &'static str,
-    pub paged: bool,
     pub program: Vec<u32>,
+    pub memory: usize,
+    pub paged: bool,
     pub timeout: u32,
+    /// Made in calls of budget 1.
+    pub by_step: bool,
 }
 
-const MEMORY: usize = 65536;
+/// Two measurements whose costs a step should be the same.
+pub struct Growth {
+    pub what: &'static str,
+    pub few: Workload,
+    pub many: Workload,
+}
+
+const LARGEST: usize = 65536;
 const DIRECTORY: u32 = 0x1000;
 const TABLE: u32 = 0x2000;
-const HANDLER: u32 = 0x800;
+pub const HANDLER: u32 = 0x800;
 
-/// An instruction: an opcode with its 24-bit operand.
-fn op(code: u32, imm: i32) -> u32 {
-    code | ((imm as u32) << 8)
+fn unpaged(name: &'static str, program: Vec<u32>) -> Workload {
+    Workload { name, program, memory: LARGEST, paged: false, timeout: 0, by_step: false }
 }
 
-/// A loop: the body, then a jump back to its first word.
-fn repeated(mut body: Vec<u32>) -> Vec<u32> {
-    body.push(op(0x03, -4 * (body.len() as i32 + 1)));
-    body
+fn paged(name: &'static str, program: Vec<u32>) -> Workload {
+    Workload { paged: true, ..unpaged(name, program) }
 }
 
-fn arithmetic() -> Vec<u32> {
-    vec![
-        op(0x54, 3),
-        op(0x5a, 5),
-        op(0x6f, 0x55),
-        op(0x53, 0),
-        op(0x72, 1),
-        op(0x78, 3),
-        op(0x3e, 0),
-        op(0x7f, 0),
-        op(0x86, 0),
-    ]
-}
-
-/// Loads, stores, a push, a pop, and a call whose target is the return that follows it.
-fn transfers() -> Vec<u32> {
-    vec![
-        op(0x40, -64),
-        op(0x0e, -64),
-        op(0x41, -32),
-        op(0x0f, -32),
-        op(0x26, -64),
-        op(0x9d, 0),
-        op(0xa1, 0),
-        op(0x54, 1),
-        op(0x05, 4),
-        op(0x03, 4),
-        op(0x02, 0),
-    ]
-}
-
-fn pages(count: i32) -> Vec<u32> {
-    (0..count)
-        .flat_map(|page| [op(0x3b, (16 + page) * 4096 + 64), op(0x4a, 0), op(0x34, 8)])
-        .collect()
-}
-
-fn mixed() -> Vec<u32> {
-    let mut body = arithmetic();
-    body.extend(transfers());
-    body.extend([
-        op(0x23, 1000),
-        op(0x5d, 7),
-        op(0x63, 9),
-        op(0x55, -64),
-        op(0x81, 0),
-        op(0x84, 0),
-        op(0x8c, 0),
-        op(0x07, 8),
-        op(0xad, 0),
-        op(0x09, 0),
-    ]);
-    body
-}
-
-/// c = 16,384 bytes from 0x8000 on to 0x4000 on.
-fn block() -> Vec<u32> {
-    vec![op(0x23, 16384), op(0xad, 0), op(0x3b, 0x8000), op(0x23, 0x4000), op(0x0a, 0)]
+fn twenty_pages() -> Vec<u32> {
+    repeated([transfers(), pages(20)].concat())
 }
 
 pub fn all() -> Vec<Workload> {
-    let plain = |name, body| Workload { name, paged: false, program: repeated(body), timeout: 0 };
-    let paged = |name, body| Workload { name, paged: true, program: repeated(body), timeout: 0 };
-    let mut timer = plain("timer trap every 50 steps", arithmetic());
-    timer.timeout = 50;
-    let mut twenty = transfers();
-    twenty.extend(pages(20));
     vec![
-        plain("arithmetic", arithmetic()),
-        plain("loads, stores, calls", transfers()),
-        paged("loads, stores, calls, 20 pages", twenty),
-        plain("all families", mixed()),
-        paged("all families, paged", mixed()),
-        timer,
-        plain("MCPY of 16 KiB", block()),
-        paged("70 pages in rotation", pages(70)),
+        unpaged("arithmetic", repeated(arithmetic())),
+        unpaged("loads, stores, calls", repeated(transfers())),
+        paged("loads, stores, calls on 20 pages", twenty_pages()),
+        unpaged("all families", repeated(mixed())),
+        paged("all families, paged", repeated(mixed())),
+        Workload { timeout: 49, ..unpaged("timer trap every 50 steps", repeated(arithmetic())) },
+        unpaged("MCPY of 16 KiB", repeated(copy_16_kib())),
+        paged("70 pages in rotation", repeated(pages(70))),
+        Workload { by_step: true, ..unpaged("calls of budget 1", repeated(mixed())) },
+        Workload { by_step: true, ..paged("calls of budget 1, 20 pages", twenty_pages()) },
     ]
 }
 
-/// The case of a workload: runs of a million steps each, and one of the rest.
-pub fn case(workload: &Workload, steps: u64) -> Case {
-    let mut chunks: Vec<Chunk> =
-        vec![(0, bytes(&workload.program)), (HANDLER, bytes(&[op(0x98, 0)]))];
-    if workload.paged {
-        chunks.push((DIRECTORY, bytes(&[TABLE | 7])));
-        chunks
-            .push((TABLE, bytes(&(0..96).map(|page| frame(page) << 12 | 7).collect::<Vec<u32>>())));
-    }
-    let budgets = (0..steps / 1_000_000).map(|_| 1_000_000).chain([steps % 1_000_000]).collect();
-    Case { machine: machine(workload), chunks, budgets }
+pub fn growths() -> [Growth; 2] {
+    let small = Workload { memory: 4096, ..unpaged("M = 4 KiB", repeated(transfers())) };
+    let filled = [touched(58), repeated(transfers())].concat();
+    [
+        Growth {
+            what: "the size of memory",
+            few: small,
+            many: unpaged("M = 64 KiB", repeated(transfers())),
+        },
+        Growth {
+            what: "the entries held",
+            few: paged("2 entries held", repeated(transfers())),
+            many: paged("60 entries held", filled),
+        },
+    ]
 }
 
-/// The low sixteen pages are themselves; later ones share frames above the tables.
+/// The case of a workload: so many runs of one budget.
+pub fn case(workload: &Workload, runs: usize, budget: u64) -> Case {
+    let runs = (0..runs).map(|_| Run { keys: Vec::new(), budget }).collect();
+    Case { machine: machine(workload), runs }
+}
+
+fn machine(workload: &Workload) -> Machine {
+    let mut memory = vec![0; workload.memory];
+    put(&mut memory, 0, &workload.program);
+    put(&mut memory, HANDLER, &[op(RTI, 0)]);
+    if workload.paged {
+        put(&mut memory, DIRECTORY, &[TABLE | 7]);
+        put(&mut memory, TABLE, &(0..96).map(|page| frame(page) << 12 | 7).collect::<Vec<u32>>());
+    }
+    Machine {
+        a: 1,
+        b: 2,
+        sp: workload.memory as u32 - 256,
+        ivec: HANDLER,
+        pdir: if workload.paged { DIRECTORY } else { 0 },
+        timeout: workload.timeout,
+        kbchar: !0,
+        iena: true,
+        paging: workload.paged,
+        ..Machine::zero(memory, Vec::new())
+    }
+}
+
+/// The frames of far pages are those between the tables and the stack, shared in turn.
 fn frame(page: u32) -> u32 {
-    if page < 16 {
+    if page < FAR_PAGE as u32 {
         page
     } else {
         4 + page % 8
     }
 }
 
-fn bytes(words: &[u32]) -> Vec<u8> {
-    words.iter().flat_map(|word| word.to_le_bytes()).collect()
-}
-
-fn machine(workload: &Workload) -> Machine {
-    Machine {
-        a: 1,
-        b: 2,
-        c: 0,
-        sp: 0xF000,
-        usp: 0,
-        ksp: 0,
-        pc: 0,
-        ivec: HANDLER,
-        pdir: DIRECTORY,
-        vadr: 0,
-        timer: 0,
-        timeout: workload.timeout,
-        kbchar: !0,
-        user: false,
-        iena: workload.timeout != 0,
-        paging: workload.paged,
-        waiting: false,
-        stop: 0,
-        count: 0,
-        taken: 0,
-        written: 0,
-        held: 0,
-        entries: [Entry::default(); 64],
-        memory: vec![0; MEMORY],
-        console: Vec::new(),
+fn put(memory: &mut [u8], at: u32, words: &[u32]) {
+    for (word, place) in words.iter().zip(memory[at as usize..].chunks_exact_mut(4)) {
+        place.copy_from_slice(&word.to_le_bytes());
     }
 }

@@ -1,8 +1,12 @@
 //! A plain, idiomatic interpreter of the rules of document 01: `&mut self` methods, a match on the opcode byte, `Result` and `?`,
-//! slices with bounds checks, one byte at a time for block opcodes. It refuses nothing: its inputs are the workloads.
+//! slices with bounds checks, one byte at a time for block opcodes.
 
 mod execute;
+mod load;
+mod refusal;
 mod translate;
+
+pub use load::load;
 
 use translate::Access;
 
@@ -53,15 +57,54 @@ pub struct Machine {
     pub console: Vec<u8>,
 }
 
+/// What a run gives: the answer's number and the steps made.
+#[derive(Clone, Copy)]
+pub struct Outcome {
+    pub answer: u32,
+    pub steps: u64,
+}
+
 impl Machine {
-    /// Steps until the budget is used or the machine stops; the steps made.
-    pub fn run(&mut self, keys: &[Key], budget: u64) -> u64 {
+    /// The all-zero record, over a memory and a console.
+    pub fn zero(memory: Vec<u8>, console: Vec<u8>) -> Machine {
+        Machine {
+            a: 0,
+            b: 0,
+            c: 0,
+            sp: 0,
+            usp: 0,
+            ksp: 0,
+            pc: 0,
+            ivec: 0,
+            pdir: 0,
+            vadr: 0,
+            timer: 0,
+            timeout: 0,
+            kbchar: 0,
+            user: false,
+            iena: false,
+            paging: false,
+            waiting: false,
+            stop: 0,
+            count: 0,
+            taken: 0,
+            written: 0,
+            held: 0,
+            entries: [Entry::default(); 64],
+            memory,
+            console,
+        }
+    }
+
+    /// Unless it is refused, steps until the budget is used or the machine stops.
+    pub fn run(&mut self, keys: &[Key], budget: u64) -> Outcome {
+        let answer = self.refusal(keys, budget);
         let mut steps = 0;
-        while steps < budget && self.stop == 0 {
+        while answer == 0 && steps < budget && self.stop == 0 {
             self.step(keys);
             steps += 1;
         }
-        steps
+        Outcome { answer, steps }
     }
 
     fn step(&mut self, keys: &[Key]) {
