@@ -56,7 +56,7 @@ impl Machine {
         };
         Ok(())
     }
-    pub fn execute(&mut self, ir: u32) -> Result<(), Fault> {
+    pub(super) fn execute(&mut self, ir: u32) -> Result<(), Fault> {
         let imm = ((ir as i32) >> 8) as u32;
         let (a, b, sp, pc) = (self.a, self.b, self.sp, self.pc);
         let op = ir as u8;

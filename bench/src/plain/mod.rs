@@ -19,7 +19,7 @@ pub struct Entry {
 }
 
 /// A fault: its code, and the address asked where it has one.
-pub enum Fault {
+enum Fault {
     Code(u32),
     At(u32, u32),
 }

@@ -3,13 +3,13 @@
 use super::{Key, Machine};
 
 /// Refusal 1, of runs and of loads.
-pub fn bad_size(size: usize) -> bool {
+pub(super) fn bad_size(size: usize) -> bool {
     size == 0 || !size.is_multiple_of(4096) || size > 1 << 27
 }
 
 impl Machine {
     /// The lowest number that applies, or 0.
-    pub fn refusal(&self, keys: &[Key], budget: u64) -> u32 {
+    pub(super) fn refusal(&self, keys: &[Key], budget: u64) -> u32 {
         if bad_size(self.memory.len()) {
             1
         } else if self.bad_registers() {

@@ -3,22 +3,27 @@
 use super::{Entry, Fault, Machine};
 
 #[derive(Clone, Copy, PartialEq)]
-pub enum Access {
+pub(super) enum Access {
     Fetch,
     Write,
     Read,
 }
 
 impl Machine {
-    pub fn word(&self, at: usize) -> u32 {
+    pub(super) fn word(&self, at: usize) -> u32 {
         u32::from_le_bytes(self.memory[at..at + 4].try_into().unwrap())
     }
 
-    pub fn put_word(&mut self, at: usize, value: u32) {
+    pub(super) fn put_word(&mut self, at: usize, value: u32) {
         self.memory[at..at + 4].copy_from_slice(&value.to_le_bytes());
     }
 
-    pub fn translate(&mut self, va: u32, access: Access, user: bool) -> Result<usize, Fault> {
+    pub(super) fn translate(
+        &mut self,
+        va: u32,
+        access: Access,
+        user: bool,
+    ) -> Result<usize, Fault> {
         if !self.paging {
             return if (va as usize) < self.memory.len() {
                 Ok(va as usize)
@@ -85,34 +90,34 @@ impl Machine {
         self.held += 1;
     }
 
-    pub fn read32(&mut self, va: u32) -> Result<u32, Fault> {
+    pub(super) fn read32(&mut self, va: u32) -> Result<u32, Fault> {
         let at = self.translate(va, Access::Read, self.user)?;
         Ok(self.word(at & !3))
     }
 
-    pub fn read16(&mut self, va: u32) -> Result<u16, Fault> {
+    pub(super) fn read16(&mut self, va: u32) -> Result<u16, Fault> {
         let at = self.translate(va, Access::Read, self.user)? & !1;
         Ok(u16::from_le_bytes(self.memory[at..at + 2].try_into().unwrap()))
     }
 
-    pub fn read8(&mut self, va: u32) -> Result<u8, Fault> {
+    pub(super) fn read8(&mut self, va: u32) -> Result<u8, Fault> {
         let at = self.translate(va, Access::Read, self.user)?;
         Ok(self.memory[at])
     }
 
-    pub fn write32(&mut self, va: u32, value: u32) -> Result<(), Fault> {
+    pub(super) fn write32(&mut self, va: u32, value: u32) -> Result<(), Fault> {
         let at = self.translate(va, Access::Write, self.user)?;
         self.put_word(at & !3, value);
         Ok(())
     }
 
-    pub fn write16(&mut self, va: u32, value: u16) -> Result<(), Fault> {
+    pub(super) fn write16(&mut self, va: u32, value: u16) -> Result<(), Fault> {
         let at = self.translate(va, Access::Write, self.user)? & !1;
         self.memory[at..at + 2].copy_from_slice(&value.to_le_bytes());
         Ok(())
     }
 
-    pub fn write8(&mut self, va: u32, value: u8) -> Result<(), Fault> {
+    pub(super) fn write8(&mut self, va: u32, value: u8) -> Result<(), Fault> {
         let at = self.translate(va, Access::Write, self.user)?;
         self.memory[at] = value;
         Ok(())
