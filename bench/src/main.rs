@@ -7,7 +7,7 @@ use bench::measure::{COUNTED, LONG, RUNS, SHORT};
 use bench::workload::{all, growths, Workload};
 use std::error::Error;
 
-const ROUNDS: usize = 5;
+const ROUNDS: usize = 7;
 
 /// The emulator's two programs and the plain one.
 struct Programs {
@@ -65,17 +65,17 @@ fn compare(programs: &Programs) -> Result<(), Box<dyn Error>> {
     );
     let mut missed = Vec::new();
     for work in all() {
-        let cost = measured(programs, &work)?;
-        missed.extend(misses(&work, &cost));
+        for cost in measured(programs, &[&work])? {
+            missed.extend(misses(&work, &cost));
+        }
     }
     for growth in growths() {
-        let few = measured(programs, &growth.few)?;
-        let many = measured(programs, &growth.many)?;
+        let costs = measured(programs, &[&growth.few, &growth.many])?;
         println!(
             "    growth with {}, of the emulator: time {:.2}, instructions {:.3}",
             growth.what,
-            many.nanoseconds[0] / few.nanoseconds[0],
-            many.instructions[0] / few.instructions[0]
+            costs[1].nanoseconds[0] / costs[0].nanoseconds[0],
+            costs[1].instructions[0] / costs[0].instructions[0]
         );
     }
     println!("all results are equal");
@@ -92,28 +92,39 @@ fn print_how() {
     println!("    refusals are tried, and the page buffer is packed into an array and back. The plain interpreter tries the refusals; its record stays.");
 }
 
-/// Compares the results of a workload, measures it and prints its line.
-fn measured(programs: &Programs, work: &Workload) -> Result<Cost, Box<dyn Error>> {
-    let (emulator, plain) = (programs.emulator(work), &programs.plain(work));
-    let result = lines(emulator, work)?;
-    if result != lines(plain, work)? {
-        return Err(format!("{}: the results differ", work.name).into());
-    }
-    let held = held_after_whole_runs(&result).ok_or("a run was refused, or stopped early")?;
-    let mut least = [f64::INFINITY; 2];
+/// Compares the results of workloads, measures them in turn, and prints a line for each.
+fn measured(programs: &Programs, works: &[&Workload]) -> Result<Vec<Cost>, Box<dyn Error>> {
+    let held =
+        works.iter().map(|work| held_if_equal(programs, work)).collect::<Result<Vec<_>, _>>()?;
+    let mut least = vec![[f64::INFINITY; 2]; works.len()];
     for _ in 0..ROUNDS {
-        for (least, program) in least.iter_mut().zip([emulator, plain]) {
-            *least = least.min(nanoseconds(program, work)?);
+        for (work, least) in works.iter().zip(&mut least) {
+            least[0] = least[0].min(nanoseconds(programs.emulator(work), work)?);
+            least[1] = least[1].min(nanoseconds(&programs.plain(work), work)?);
         }
     }
-    let counts = [instructions(emulator, work)?.0, instructions(plain, work)?.0];
-    let cost = Cost { nanoseconds: least, instructions: counts };
-    print!("{:<34}", work.name);
-    for [emulator, plain] in [cost.nanoseconds, cost.instructions] {
-        print!("{emulator:>10.2}{plain:>8.2}{:>7.2}  ", emulator / plain);
+    let mut costs = Vec::new();
+    for ((work, held), nanoseconds) in works.iter().zip(held).zip(least) {
+        let (emulator, plain) = (programs.emulator(work), &programs.plain(work));
+        let counts = [instructions(emulator, work)?.0, instructions(plain, work)?.0];
+        print!("{:<34}", work.name);
+        for [emulator, plain] in [nanoseconds, counts] {
+            print!("{emulator:>10.2}{plain:>8.2}{:>7.2}  ", emulator / plain);
+        }
+        println!("{held:>7}");
+        costs.push(Cost { nanoseconds, instructions: counts });
     }
-    println!("{held:>7}");
-    Ok(cost)
+    Ok(costs)
+}
+
+/// The entries held after a workload; fails where the two programs' results differ or a run is not made whole.
+fn held_if_equal(programs: &Programs, work: &Workload) -> Result<u64, Box<dyn Error>> {
+    let result = lines(programs.emulator(work), work)?;
+    if result != lines(&programs.plain(work), work)? {
+        return Err(format!("{}: the results differ", work.name).into());
+    }
+    held_after_whole_runs(&result)
+        .ok_or_else(|| format!("{}: a run was refused, or stopped early", work.name).into())
 }
 
 /// Which targets a workload misses.

@@ -38,7 +38,7 @@ fn runs(work: &Workload) -> usize {
 /// The lines of the long runs.
 pub fn lines(program: &Program, work: &Workload) -> Result<String, Box<dyn Error>> {
     let bytes = encode(&case(work, runs(work), LONG));
-    Ok(String::from_utf8(run(program.command(), &bytes)?.output)?)
+    Ok(String::from_utf8_lossy(&run(program.command(), &bytes)?.output).into_owned())
 }
 
 /// Whether every run was accepted and made all its steps, and the entries held after the last.
@@ -76,7 +76,7 @@ fn counted(program: &Program, input: &[u8]) -> Result<(f64, String), Box<dyn Err
     let mut command = Command::new("valgrind");
     command.arg("--tool=callgrind").arg(format!("--callgrind-out-file={}", file.display()));
     command.args(&program.0).stderr(Stdio::null());
-    let line = String::from_utf8(run(command, input)?.output)?;
+    let line = String::from_utf8_lossy(&run(command, input)?.output).into_owned();
     let text = fs::read_to_string(&file)?;
     fs::remove_file(file)?;
     let total = text.lines().find_map(|line| line.strip_prefix("totals: "));
