@@ -4,7 +4,7 @@ ghost use Prim.Native.Nat.{_+_, _≤_};
 ghost use lib.ListN.{length};
 ghost use Rattle.memory.specs.Memory.{loadN, storeN, bytes, sizeOk};
 
-// The size of an access.
+// The size of an access. The rarest stands first: of a first variant that many instructions have, compilers clear a register in every step.
 pub enum Size {
     Byte,
     Half,
