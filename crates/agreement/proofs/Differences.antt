@@ -13,11 +13,10 @@ use Rattle.paging.specs.Held.{heldAfter, storesHeld}
 use Rattle.paging.proofs.BoolLaws.{neither}
 use Rattle.rules.specs.declared.Cpu.{Cpu}
 use Rattle.rules.specs.declared.RunAnswer.{RunAnswer}
-use Rattle.rules.specs.declared.Stop.{Stop}
-use Rattle.rules.specs.Record.{withClock, withTaken, withStop}
 use Rattle.rules.specs.Step.{State, Stepped}
 use Rattle.agreement.specs.Agreement.{Transcript, shown, AgreeSteps, Agree}
-use Rattle.agreement.proofs.EqualTranscripts.{heldThrough, storesThrough, storesInRuns, compared, runs-equal}
+use Rattle.agreement.proofs.Comparison.{heldThrough, storesThrough}
+use Rattle.agreement.proofs.EqualTranscripts.{storesInRuns, compared, runs-equal}
 
 -- ---- a run, and a state, with one part put in place
 
@@ -111,13 +110,21 @@ module _ {B : Type 0} (before later : List (Transcript B)) where
     pub console-differs : (a x : ℕ) → a < length (s .console) → getD (s .console) a 0 ≢ x → Disagree (put s) (put (withOutput a x s))
     console-differs a x l h = states-differ (withOutput a x s) (λ e. h (ap (λ c. getD (c .console) a 0) e ∙ getD-set-same (s .console) a x 0 l))
 
+    -- in anything that is told of the record
+    pub record-differs : {A : Type 0} (told : Cpu → A) (c : Cpu) → told (s .cpu) ≢ told c → Disagree (put s) (put (withCpu c s))
+    record-differs told c h = states-differ (withCpu c s) (λ e. h (ap (λ x. told (x .cpu)) e))
+
     -- in keys taken
-    pub taken-differ : (n : ℕ) → s .cpu .clock .taken ≢ n → Disagree (put s) (put (withCpu (withClock (withTaken n (s .cpu .clock)) (s .cpu)) s))
-    taken-differ n h = states-differ (withCpu (withClock (withTaken n (s .cpu .clock)) (s .cpu)) s) (λ e. h (ap (λ c. c .cpu .clock .taken) e))
+    pub taken-differ : (c : Cpu) → s .cpu .clock .taken ≢ c .clock .taken → Disagree (put s) (put (withCpu c s))
+    taken-differ = record-differs (λ c. c .clock .taken)
+
+    -- in the console count
+    pub written-differs : (c : Cpu) → s .cpu .written ≢ c .written → Disagree (put s) (put (withCpu c s))
+    written-differs = record-differs (λ c. c .written)
 
     -- in the stop reason
-    pub stops-differ : (x : Stop) → s .cpu .stop ≢ x → Disagree (put s) (put (withCpu (withStop x (s .cpu)) s))
-    stops-differ x h = states-differ (withCpu (withStop x (s .cpu)) s) (λ e. h (ap (λ c. c .cpu .stop) e))
+    pub stops-differ : (c : Cpu) → s .cpu .stop ≢ c .stop → Disagree (put s) (put (withCpu c s))
+    stops-differ = record-differs (λ c. c .stop)
 
   -- in a state in the middle: the step after xs
   pub middle-differs : (xs : List (Stepped B)) (es : List Event) (ys : List (Stepped B)) (t : Transcript B) (s u : State B) → WithoutStore (withStep xs es ys t s)

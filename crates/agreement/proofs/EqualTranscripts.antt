@@ -2,24 +2,21 @@
 use Prim.Native.Nat.{ℕ}
 use mathlib.Core.Path.{_≡_, refl}
 use mathlib.Core.Bool.{Bool, false, _||_}
-use mathlib.Core.List.{List, [], _∷_, map}
+use mathlib.Core.List.{List, [], _∷_, _++_, map}
+use lib.ListN.{length, drop}
 use Rattle.paging.specs.Event.{Words}
 use Rattle.paging.specs.Held.{heldAfter, storesHeld}
 use Rattle.paging.proofs.BoolLaws.{neither}
 use Rattle.rules.specs.declared.RunAnswer.{RunAnswer}
 use Rattle.rules.specs.Step.{Stepped}
 use Rattle.agreement.specs.Agreement.{Transcript, Shown, shown, AgreeSteps, Agree}
+use Rattle.agreement.proofs.Comparison.{heldThrough, storesThrough, statesOf}
 
--- what is held after some steps, and whether one of them makes a store of demand 3's kind
-abbrev pub heldThrough : {B : Type 0} → List Words → List (Stepped B) → List Words
-heldThrough hs [] = hs
-heldThrough hs (t ∷ ts) = heldThrough (heldAfter hs (t .events)) ts
+-- what is held after some runs, and whether one of them makes a store of demand 3's kind
+abbrev pub heldInRuns : {B : Type 0} → List Words → List (Transcript B) → List Words
+heldInRuns hs [] = hs
+heldInRuns hs (t ∷ ts) = heldInRuns (heldThrough hs (t .steps)) ts
 
-abbrev pub storesThrough : {B : Type 0} → List Words → List (Stepped B) → Bool
-storesThrough hs [] = false
-storesThrough hs (t ∷ ts) = storesHeld hs (t .events) || storesThrough (heldAfter hs (t .events)) ts
-
--- over a list of runs
 abbrev pub storesInRuns : {B : Type 0} → List Words → List (Transcript B) → Bool
 storesInRuns hs [] = false
 storesInRuns hs (t ∷ ts) = storesThrough hs (t .steps) || storesInRuns (heldThrough hs (t .steps)) ts
@@ -30,9 +27,6 @@ pub record Compared : Type 0 where
   pub reported : ℕ
   pub states : List Shown
   pub last : Shown
-
-abbrev pub statesOf : {B : Type 0} → List (Stepped B) → List Shown
-statesOf ts = map (λ t. shown (t .state)) ts
 
 abbrev pub compared : {B : Type 0} → Transcript B → Compared
 compared t = record { answer = t .answer; reported = t .reported; states = statesOf (t .steps); last = shown (t .last) }
@@ -60,3 +54,13 @@ runs-equal hs (b ∷ bs) (t ∷ ts) a q =
     let s = steps-equal Rest (b .reported ≡ t .reported) hs (b .steps) (t .steps) (a .1) (n .0) in
     let r = s .1 in
     rw (a .0, s .0, r .0, r .1 .0, runs-equal (heldThrough hs (b .steps)) bs ts (r .1 .1) (n .1))
+
+-- after runs without such a store the others agree, with what is held then
+pub later-agree : {B C : Type 0} (hs : List Words) (before later : List (Transcript B)) (ts : List (Transcript C))
+    → Agree hs (before ++ later) ts → storesInRuns hs before ≡ false → Agree (heldInRuns hs before) later (drop (length before) ts)
+later-agree hs [] later ts a q = a
+later-agree hs (b ∷ before) later [] a q = absurd a
+later-agree hs (b ∷ before) later (t ∷ ts) a q =
+    let n = neither (storesThrough hs (b .steps)) (storesInRuns (heldThrough hs (b .steps)) before) q in
+    let s = steps-equal _ (b .reported ≡ t .reported) hs (b .steps) (t .steps) (a .1) (n .0) in
+    later-agree (heldThrough hs (b .steps)) before later ts (s .1 .1 .1) (n .1)

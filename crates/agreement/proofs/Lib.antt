@@ -1,3 +1,4 @@
+pub mod Comparison
 pub mod EqualTranscripts
 pub mod Differences
 pub mod StepsAgree

@@ -14,7 +14,7 @@ use Rattle.rules.specs.Record.{isRunning}
 use Rattle.rules.specs.Step.{Stepped, step}
 use Rattle.rules.specs.Run.{stepsOf, lastOf}
 use Rattle.rules.proofs.SoundStep.{SoundState, step-sound}
-use Rattle.agreement.proofs.EqualTranscripts.{heldThrough, storesThrough}
+use Rattle.agreement.proofs.Comparison.{heldThrough, storesThrough}
 use Rattle.agreement.proofs.StepsAgree.{Buffered}
 
 -- the state after n steps, or after as many as are made before the machine stops
