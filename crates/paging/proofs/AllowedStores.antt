@@ -8,16 +8,20 @@ use Rattle.paging.specs.declared.Access.{Access}
 use Rattle.paging.specs.declared.Access.the-variants.{Read, Write}
 use Rattle.paging.specs.declared.Answer.{Answer}
 use Rattle.paging.specs.declared.Entry.{Entry}
-use Rattle.paging.specs.Event.{marked, stored, Words}
+use Rattle.paging.specs.Event.{Event, walked, kept, emptied, marked, stored, delivered, Words}
 use Rattle.paging.specs.Walk.{bit, mark, markFor, markEvents, dirAt, tabAt, allows, walk, found}
 use Rattle.paging.specs.Buffer.{serves, hit, has, place, fits, afterWalk, walkEvents}
-use Rattle.paging.specs.Held.{touches, touchesHeld, storesHeld}
+use Rattle.paging.specs.Held.{heldAfter, touches, touchesHeld, storesHeld}
 use Rattle.paging.specs.Translate.{Outcome, translateBy, paged, buffered}
+
+-- an entry held: its page and its words' addresses
+abbrev pub words : (page dir tab : ℕ) → Words
+words p d t = record { page = p; dir = d; tab = t }
 
 -- page 2 is held, with its directory word at 0x1000 and its table word at 0x2008
 pub held : List Words
 unfolding storesHeld touchesHeld touches
-held = record { page = 2; dir = 0x1000; tab = 0x2008 } ∷ []
+held = words 2 0x1000 0x2008 ∷ []
 
 -- ---- other places
 
@@ -42,6 +46,18 @@ before-words = refl
 pub after-words : storesHeld held (stored 0x1004 1 ∷ stored 0x1004 4 ∷ stored 0x200c 1 ∷ stored 0x200c 4 ∷ []) ≡ false
 unfolding held
 after-words = refl
+
+-- ---- events that are no stores
+
+-- a frame delivered outside words held: its two slots, then the trap
+pub frame-elsewhere : storesHeld held (stored 0x3ff8 4 ∷ stored 0x3ff0 4 ∷ delivered 1 ∷ []) ≡ false
+unfolding held
+frame-elsewhere = refl
+
+-- a walk, an entry kept, the buffer emptied, a frame delivered: none counts by itself
+pub others-listed : storesHeld held (walked ∷ kept (words 3 0x1000 0x200c) ∷ delivered 1 ∷ emptied ∷ []) ≡ false
+unfolding held place
+others-listed = refl
 
 -- ---- the walk's marks
 
@@ -92,6 +108,13 @@ pub faulting-walk : storesHeld [] ((asked Read 3 small []) .events ++ (stored 12
 unfolding asked small
 faulting-walk = refl
 
+-- ---- entries that were replaced
+
+-- the same page is kept again, from other words: a store into the old ones
+pub replaced-words : storesHeld held (kept (words 2 0x1800 0x2808) ∷ stored 0x1000 4 ∷ stored 0x2008 4 ∷ []) ≡ false
+unfolding held place
+replaced-words = refl
+
 -- ---- entries that were emptied
 
 -- by PDIR or SPAG
@@ -108,3 +131,18 @@ entries (suc n) = record { page = n; frame = 0; user = true; write = true } ∷ 
 pub emptied-by-page : storesHeld held (walkEvents 64 (entries 64) (found 0 true true 0x1000 0x2100) ++ (stored 0x2008 4 ∷ [])) ≡ false
 unfolding held entries place walkEvents fits has
 emptied-by-page = refl
+
+-- ---- in a later step
+
+-- what is held after a step's events: only an entry kept and a buffer emptied change it
+pub held-later : heldAfter held (walked ∷ marked 0x1000 ∷ stored 0x3010 4 ∷ delivered 1 ∷ []) ≡ held
+unfolding held heldAfter
+held-later = refl
+
+pub replaced-later : heldAfter held (kept (words 2 0x1800 0x2808) ∷ []) ≡ words 2 0x1800 0x2808 ∷ []
+unfolding held heldAfter place
+replaced-later = refl
+
+pub emptied-later : heldAfter held (emptied ∷ []) ≡ []
+unfolding held heldAfter
+emptied-later = refl
