@@ -8,6 +8,7 @@ use Rattle.paging.specs.Event.{Event, walked, kept, emptied, marked, stored, de
 use Rattle.paging.specs.Held.{touches, touchesHeld, heldAfter, storesHeld}
 use Rattle.paging.specs.Translate.{buffered, reader}
 use Rattle.rules.specs.declared.Cpu.{Cpu}
+use Rattle.rules.specs.declared.Key.{Key}
 use Rattle.worked.specs.Start.{fresh, putPc, pagedFrom}
 use Rattle.worked.specs.Opened.{ranBy}
 use Rattle.agreement.specs.Agreement.{Input, Transcript, transcripts, Shown, started}
@@ -25,13 +26,19 @@ pub record Example : Type 0 where
 abbrev pub kernel : Cpu
 kernel = pagedFrom 0 (putPc 0x1100 fresh)
 
--- a run without keys
-abbrev pub run : ℕ → Input
-run n = record { keys = []; budget = n }
+-- a run with keys, and one without
+abbrev pub runWith : List Key → ℕ → Input
+runWith ks n = record { keys = ks; budget = n }
 
--- a record, a memory and no console
+abbrev pub run : ℕ → Input
+run n = runWith [] n
+
+-- a record, a memory and a console; and without a console
+abbrev pub exampleWith : Cpu → List ℕ → List ℕ → List Input → Example
+exampleWith cpu mem con runs = record { start = record { cpu = cpu; mem = mem; console = con }; runs = runs }
+
 abbrev pub example : Cpu → List ℕ → List Input → Example
-example cpu mem runs = record { start = record { cpu = cpu; mem = mem; console = [] }; runs = runs }
+example cpu mem runs = exampleWith cpu mem [] runs
 
 -- page p's entry is kept: its words
 abbrev pub keeps : (p dir tab : ℕ) → Event
@@ -86,6 +93,12 @@ abbrev pub aAfter : {B : Type 0} → List (Transcript B) → ℕ
 aAfter [] = 0
 aAfter (t ∷ []) = t .last .cpu .regs .a
 aAfter (t ∷ u ∷ ts) = aAfter (u ∷ ts)
+
+-- the console after the last run
+abbrev pub consoleAfter : {B : Type 0} → List (Transcript B) → List ℕ
+consoleAfter [] = []
+consoleAfter (t ∷ []) = t .last .console
+consoleAfter (t ∷ u ∷ ts) = consoleAfter (u ∷ ts)
 
 -- ---- what an example shows
 
