@@ -12,8 +12,8 @@ use Rattle.paging.specs.Translate.{Translator, buffered, reader}
 use Rattle.paging.proofs.BoolLaws.{neither}
 use Rattle.rules.specs.declared.Cpu.{Cpu}
 use Rattle.rules.specs.Step.{State, Stepped}
-use Rattle.rules.specs.Run.{reported, run}
-use Rattle.agreement.specs.Agreement.{Input, Transcript, transcripts, Shown, shown, IfLast, AgreeSteps, Agree, started, Demand3}
+use Rattle.rules.specs.Run.{runNumber, reported, run}
+use Rattle.agreement.specs.Agreement.{Input, Transcript, transcripts, Shown, shown, AgreeSteps, Agree, started, Demand3}
 
 -- ---- the start, and the runs
 
@@ -32,7 +32,7 @@ every-start claim c mem con runs = claim (record { cpu = c; mem = mem; console =
 pub each-run : {B : Type 0} (tr : Translator B) (i : Input) (is : List Input) (s : State B)
     → transcripts tr (i ∷ is) s
     ≡ record {
-      answer = run tr (i .keys) (i .budget) s .answer;
+      answer = runNumber (run tr (i .keys) (i .budget) s .answer);
       reported = reported (run tr (i .keys) (i .budget) s);
       steps = run tr (i .keys) (i .budget) s .steps;
       last = run tr (i .keys) (i .budget) s .state;
@@ -68,17 +68,16 @@ through-equal Rest E hs [] [] a = refl
 through-equal Rest E hs [] (t ∷ ts) a = absurd a
 through-equal Rest E hs (b ∷ bs) [] a = absurd a
 through-equal {B} {C} Rest E hs (b ∷ bs) (t ∷ ts) a =
-    go (storesHeld hs (b .events)) (a .1) (λ x. through-equal Rest E (heldAfter hs (b .events)) bs ts x)
+    go (storesHeld hs (b .events)) (λ q. through-equal Rest E (heldAfter hs (b .events)) bs ts (rw q at (a .1)))
   where
     later : List (Stepped B)
     later = throughStore (heldAfter hs (b .events)) bs
 
-    go : (c : Bool) → (if c then IfLast bs E else AgreeSteps (heldAfter hs (b .events)) bs ts Rest E)
-        → (AgreeSteps (heldAfter hs (b .events)) bs ts Rest E → statesOf later ≡ take (length later) (statesOf ts))
+    go : (c : Bool) → (c ≡ false → statesOf later ≡ take (length later) (statesOf ts))
         → statesOf (b ∷ (if c then [] else later))
         ≡ take (length (b ∷ (if c then [] else later))) (statesOf (t ∷ ts))
-    go true x k = rw (a .0)
-    go false x k = rw (a .0, k x)
+    go true k = rw (a .0)
+    go false k = rw (a .0, k refl)
 
 -- where the run ends with the first such step, E is claimed
 last-claimed : {B C : Type 0} (Rest : List Words → Type 0) (E : Type 0) (hs : List Words) (bs : List (Stepped B)) (b : Stepped B) (ts : List (Stepped C))

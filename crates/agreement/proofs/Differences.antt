@@ -12,7 +12,6 @@ use Rattle.paging.specs.Event.{Event, Words}
 use Rattle.paging.specs.Held.{heldAfter, storesHeld}
 use Rattle.paging.proofs.BoolLaws.{neither}
 use Rattle.rules.specs.declared.Cpu.{Cpu}
-use Rattle.rules.specs.declared.RunAnswer.{RunAnswer}
 use Rattle.rules.specs.Step.{State, Stepped}
 use Rattle.agreement.specs.Agreement.{Transcript, shown, AgreeSteps, Agree}
 use Rattle.agreement.proofs.Comparison.{heldThrough, storesThrough}
@@ -22,7 +21,7 @@ use Rattle.agreement.proofs.EqualTranscripts.{storesInRuns, compared, r
 
 module _ {B : Type 0} where
   -- the answer
-  abbrev pub withAnswer : RunAnswer → Transcript B → Transcript B
+  abbrev pub withAnswer : ℕ → Transcript B → Transcript B
   withAnswer a t = record { answer = a; reported = t .reported; steps = t .steps; last = t .last }
 
   -- the reported steps
@@ -76,7 +75,7 @@ module _ {B : Type 0} (before later : List (Transcript B)) where
   -- ---- the differences
 
   -- in an answer
-  pub answers-differ : (t : Transcript B) (a : RunAnswer) → WithoutStore t → t .answer ≢ a → Disagree t (withAnswer a t)
+  pub answers-differ : (t : Transcript B) (a : ℕ) → WithoutStore t → t .answer ≢ a → Disagree t (withAnswer a t)
   answers-differ t a q h g = h (ap (λ c. c .answer) (run-equal t (withAnswer a t) q g))
 
   -- in reported steps

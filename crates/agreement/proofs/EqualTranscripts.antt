@@ -7,7 +7,6 @@ use lib.ListN.{length, drop}
 use Rattle.paging.specs.Event.{Words}
 use Rattle.paging.specs.Held.{heldAfter, storesHeld}
 use Rattle.paging.proofs.BoolLaws.{neither}
-use Rattle.rules.specs.declared.RunAnswer.{RunAnswer}
 use Rattle.rules.specs.Step.{Stepped}
 use Rattle.agreement.specs.Agreement.{Transcript, Shown, shown, AgreeSteps, Agree}
 use Rattle.agreement.proofs.Comparison.{heldThrough, storesThrough, statesOf}
@@ -23,7 +22,7 @@ storesInRuns hs (t ∷ ts) = storesThrough hs (t .steps) || storesInRuns (heldTh
 
 -- all that is compared of a run
 pub record Compared : Type 0 where
-  pub answer : RunAnswer
+  pub answer : ℕ
   pub reported : ℕ
   pub states : List Shown
   pub last : Shown

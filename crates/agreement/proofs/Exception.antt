@@ -13,9 +13,9 @@ use Rattle.paging.specs.TrapCode.{pageFault}
 use Rattle.memory.specs.Memory.{loadN, storeN, sizeOk}
 use Rattle.decode.specs.Opcodes.{decodeOf, opcodeOf, table}
 use Rattle.word.specs.Word.{extend}
-use Rattle.rules.specs.declared.Stop.the-variants.{Running}
 use Rattle.rules.specs.Clock.{nextOf, ticked, dueOf}
-use Rattle.rules.specs.Record.{stopNumber}
+use Rattle.rules.specs.Record.{stopNumber, withPc, withRegs, withPaging, withSpace}
+use Rattle.rules.specs.Load.{zeroCpu}
 use Rattle.rules.specs.Tree.{bind, storeAll, storeEvents, answered, interpret}
 use Rattle.rules.specs.Step.{step}
 use Rattle.rules.specs.Run.{Ran, run, registersOk, keysOk}
@@ -25,21 +25,9 @@ use Rattle.agreement.specs.Agreement.{Shown, started}
 pub memory : List ℕ
 memory = 7 ∷ 0 ∷ 0 ∷ 0 ∷ 0x4a ∷ replicate 4091 0
 
--- a and b are 0: SX stores 0 into the word at 0
+-- a and b are 0: SX at 4 stores 0 into the word at 0
 pub begin : Shown
-begin = record {
-  cpu = record {
-    regs = record { a = 0; b = 0; c = 0; sp = 0; pc = 4; count = 0 };
-    clock = record { timer = 0; timeout = 0; kbchar = 0; taken = 0 };
-    vadr = 0;
-    space = record { pdir = 0; paging = true };
-    system = record { usp = 0; ksp = 0; ivec = 0; user = false; iena = false; waiting = false };
-    stop = Running;
-    written = 0;
-  };
-  mem = memory;
-  console = [];
-}
+begin = record { cpu = withSpace (withPaging true (zeroCpu .space)) (withRegs (withPc 4 (zeroCpu .regs)) zeroCpu); mem = memory; console = [] }
 
 -- the stop reason after each step of a run
 pub stops : {B : Type 0} → Ran B → List ℕ

@@ -25,7 +25,7 @@ use Rattle.agreement.proofs.StepsAgree.{Buffered}
 -- no run of a list is refused with 3
 abbrev pub NoneThree : {B : Type 0} → List (Transcript B) → Type 0
 NoneThree [] = Unit
-NoneThree (t ∷ ts) = (runNumber (t .answer) ≢ 3) × NoneThree ts
+NoneThree (t ∷ ts) = (t .answer ≢ 3) × NoneThree ts
 
 -- a buffer that passes the test for 3
 not-three : (size registers keys console budget : Bool) → runNumber (firstRefusal size registers true keys console budget) ≢ 3

@@ -11,9 +11,8 @@ use Rattle.paging.specs.Held.{heldAfter, storesHeld}
 use Rattle.paging.specs.Translate.{Translator, buffered, reader}
 use Rattle.rules.specs.declared.Cpu.{Cpu}
 use Rattle.rules.specs.declared.Key.{Key}
-use Rattle.rules.specs.declared.RunAnswer.{RunAnswer}
 use Rattle.rules.specs.Step.{State, Stepped}
-use Rattle.rules.specs.Run.{Ran, reported, run}
+use Rattle.rules.specs.Run.{runNumber, Ran, reported, run}
 
 -- what each run is given
 pub record Input : Type 0 where
@@ -22,13 +21,13 @@ pub record Input : Type 0 where
 
 -- what is known of a run: its answer number, its reported steps, the state after every step, and the state at the end
 pub record Transcript (B : Type 0) : Type 0 where
-  pub answer : RunAnswer
+  pub answer : ℕ
   pub reported : ℕ
   pub steps : List (Stepped B)
   pub last : State B
 
 abbrev pub transcript : {B : Type 0} → Ran B → Transcript B
-transcript r = record { answer = r .answer; reported = reported r; steps = r .steps; last = r .state }
+transcript r = record { answer = runNumber (r .answer); reported = reported r; steps = r .steps; last = r .state }
 
 -- the runs one after another, each from the state in which the one before it ended
 unfoldable pub transcripts : {B : Type 0} → Translator B → List Input → State B → List (Transcript B)

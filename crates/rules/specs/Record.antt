@@ -87,6 +87,12 @@ withKbchar x k = record { timer = k .timer; timeout = k .timeout; kbchar = x; ta
 abbrev pub withTaken : ℕ → Clock → Clock
 withTaken x k = record { timer = k .timer; timeout = k .timeout; kbchar = k .kbchar; taken = x }
 
+abbrev pub withPdir : ℕ → Space → Space
+withPdir x s = record { pdir = x; paging = s .paging }
+
+abbrev pub withPaging : Bool → Space → Space
+withPaging x s = record { pdir = s .pdir; paging = x }
+
 abbrev pub withUsp : ℕ → System → System
 withUsp x y = record { usp = x; ksp = y .ksp; ivec = y .ivec; user = y .user; iena = y .iena; waiting = y .waiting }
 

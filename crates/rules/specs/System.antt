@@ -14,7 +14,7 @@ use Rattle.paging.specs.Walk.{bit}
 use Rattle.paging.specs.TrapCode.{FMEM, FPRIV, USER}
 use Rattle.rules.specs.declared.Stop.the-variants.{Halted}
 use Rattle.rules.specs.declared.Cpu.{Cpu}
-use Rattle.rules.specs.Record.{setPc, setSp, withSp, withRegs, withSystem, withClock, withStop, withWritten, withUsp, withKsp, withIvec, withUser, withIena, withWaiting, withTimeout, withKbchar, putA}
+use Rattle.rules.specs.Record.{setPc, setSp, withSp, withRegs, withSystem, withClock, withStop, withWritten, withUsp, withKsp, withPdir, withPaging, withIvec, withUser, withIena, withWaiting, withTimeout, withKbchar, putA}
 use Rattle.rules.specs.Tree.{Reply, got, denied, Tree, ask, done, access}
 use Rattle.rules.specs.Arithmetic.{flag}
 use Rattle.rules.specs.Execute.{moved}
@@ -53,12 +53,12 @@ unfoldable pub pdirTree : ℕ → Cpu → Cpu → Tree Final
 unfolding faultTree
 pdirTree size old c =
     if ltb (c .regs .a) size
-    then final c [] (turn (record { pdir = cut 4096 (c .regs .a); paging = c .space .paging }))
+    then final c [] (turn (withPdir (cut 4096 (c .regs .a)) (c .space)))
     else faultTree old (record { code = FMEM; address = c .regs .a }) (nextPc old)
 
 -- "SPAG: paging = (a ≠ 0)"
 abbrev pub spagTree : Cpu → Tree Final
-spagTree c = final c [] (turn (record { pdir = c .space .pdir; paging = not (eqb (c .regs .a) 0) }))
+spagTree c = final c [] (turn (withPaging (not (eqb (c .regs .a) 0)) (c .space)))
 
 -- what each does: `old` is the record before the fetch, c has pc moved on
 unfoldable pub privilegedTree : (size room : ℕ) → SysOp → Cpu → Cpu → Tree Final

@@ -9,13 +9,10 @@ use borrow.Author.Tests.{eqb-true}
 use Rattle.word.specs.Word.{if_then_else_}
 use Rattle.paging.proofs.BoolLaws.{both}
 use Rattle.rules.specs.declared.Cpu.{Cpu}
-use Rattle.rules.specs.declared.RunAnswer.{RunAnswer}
-use Rattle.rules.specs.declared.RunAnswer.the-variants.{Accepted, BadSize, BadRegisters, BadBuffer, BadKeys, BadConsole, BadBudget}
 use Rattle.rules.specs.declared.Stop.{Stop}
 use Rattle.rules.specs.declared.Stop.the-variants.{Running, Halted, Masked, NoFrame}
 use Rattle.rules.specs.Arithmetic.{flag}
 use Rattle.rules.specs.Record.{stopNumber}
-use Rattle.rules.specs.Run.{runNumber}
 use Rattle.agreement.specs.Agreement.{Shown}
 use Rattle.agreement.proofs.EqualTranscripts.{Compared}
 
@@ -132,44 +129,19 @@ same-shown s t e =
     let q = both (sameNumbers (numbersOf (s .cpu)) (numbersOf (t .cpu))) (sameNumbers (s .mem) (t .mem)) (p .0) in
     λ i. record { cpu = same-record (s .cpu) (t .cpu) (q .0) i; mem = same-numbers (s .mem) (t .mem) (q .1) i; console = same-numbers (s .console) (t .console) (p .1) i }
 
--- an answer, from its number
-abbrev answerOf : ℕ → RunAnswer
-answerOf n =
-    if eqb n 0
-    then Accepted
-    else (if eqb n 1
-    then BadSize
-    else (if eqb n 2
-    then BadRegisters
-    else (if eqb n 3 then BadBuffer else (if eqb n 4 then BadKeys else (if eqb n 5 then BadConsole else BadBudget)))))
-
--- and back
-answer-read : (a : RunAnswer) → answerOf (runNumber a) ≡ a
-answer-read Accepted = refl
-answer-read BadSize = refl
-answer-read BadRegisters = refl
-answer-read BadBuffer = refl
-answer-read BadKeys = refl
-answer-read BadConsole = refl
-answer-read BadBudget = refl
-
--- answers with the same number are equal
-same-answer : (a b : RunAnswer) → eqb (runNumber a) (runNumber b) ≡ true → a ≡ b
-same-answer a b e = sym (answer-read a) ∙ ap answerOf (eqb-true (runNumber a) (runNumber b) e) ∙ answer-read b
-
 -- answer, reported steps, states
 abbrev pub sameRun : Compared → Compared → Bool
-sameRun x y = eqb (runNumber (x .answer)) (runNumber (y .answer)) && eqb (x .reported) (y .reported) && sameAll sameShown (x .last ∷ x .states) (y .last ∷ y .states)
+sameRun x y = eqb (x .answer) (y .answer) && eqb (x .reported) (y .reported) && sameAll sameShown (x .last ∷ x .states) (y .last ∷ y .states)
 
 -- true
 same-run : (x y : Compared) → sameRun x y ≡ true → x ≡ y
 same-run x y e =
-    let a = eqb (runNumber (x .answer)) (runNumber (y .answer)) in
+    let a = eqb (x .answer) (y .answer) in
     let r = eqb (x .reported) (y .reported) in
     let p = both (a && r) (sameAll sameShown (x .last ∷ x .states) (y .last ∷ y .states)) e in
     let q = both a r (p .0) in
     let s = same-all sameShown same-shown (x .last ∷ x .states) (y .last ∷ y .states) (p .1) in
-    λ i. record { answer = same-answer (x .answer) (y .answer) (q .0) i; reported = eqb-true (x .reported) (y .reported) (q .1) i; states = tail-eq-of-cons-eq s i; last = head-eq-of-cons-eq s i }
+    λ i. record { answer = eqb-true (x .answer) (y .answer) (q .0) i; reported = eqb-true (x .reported) (y .reported) (q .1) i; states = tail-eq-of-cons-eq s i; last = head-eq-of-cons-eq s i }
 
 -- runs whose test holds are equal in all that is compared
 pub same-runs : (xs ys : List Compared) → sameAll sameRun xs ys ≡ true → xs ≡ ys
