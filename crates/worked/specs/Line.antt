@@ -46,14 +46,23 @@ sp s = s .cpu .regs .sp
 abbrev pub pc : Found → ℕ
 pc s = s .cpu .regs .pc
 
+abbrev pub count : Found → ℕ
+count s = s .cpu .regs .count
+
 abbrev pub usp : Found → ℕ
 usp s = s .cpu .system .usp
 
 abbrev pub ksp : Found → ℕ
 ksp s = s .cpu .system .ksp
 
+abbrev pub ivec : Found → ℕ
+ivec s = s .cpu .system .ivec
+
 abbrev pub pdir : Found → ℕ
 pdir s = s .cpu .space .pdir
+
+abbrev pub paging : Found → ℕ
+paging s = flag (s .cpu .space .paging)
 
 abbrev pub vadr : Found → ℕ
 vadr s = s .cpu .vadr

@@ -1,20 +1,17 @@
 -- Document 01, "The record and the loaded program", "Numbers returned" and the run program: what a load gives, its edges, and the run of what was loaded.
 use Prim.Native.Nat.{ℕ}
 use mathlib.Core.Path.{_≡_, refl}
-use mathlib.Core.Bool.{false}
 use mathlib.Core.List.{List, [], _∷_, _++_}
 use lib.ListN.{take, replicate}
 use Rattle.memory.specs.Memory.{loadN, sizeOk}
 use Rattle.executable.specs.Executable.{loadNumber, answerBy, loadAnswer}
 use Rattle.paging.specs.declared.Entry.{Entry}
 use Rattle.paging.specs.Translate.{buffered, reader}
-use Rattle.rules.specs.declared.Stop.the-variants.{Running}
-use Rattle.rules.specs.declared.Cpu.{Cpu}
 use Rattle.rules.specs.Step.{State}
 use Rattle.rules.specs.Load.{Loaded, load}
 use Rattle.worked.specs.Start.{bytesOfAll, zeros}
 use Rattle.worked.specs.Opened.{ranBy}
-use Rattle.worked.specs.Line.{Found, found, steps, stop, a, b, c, sp, pc, written, answer, _is_, All}
+use Rattle.worked.specs.Line.{Found, found, Fact, answer, steps, a, b, c, sp, pc, count, usp, ksp, ivec, pdir, paging, vadr, timer, timeout, kbchar, taken, user, iena, waiting, stop, written, _is_, All}
 use Rattle.worked.specs.Edge.{Edge, _gives_, Edges, end, _and_}
 
 -- "P1 and HALT, entry 0, bss 0, data start 12"
@@ -32,21 +29,18 @@ pub answer-is-0 : loadNumber ((loaded 4096 file) .answer) ≡ 0
 unfolding loaded
 answer-is-0 = refl
 
--- "pc = entry, sp = M, kbchar = 0xFFFFFFFF, all else 0 and the buffer empty"
-abbrev pub cpuOf : (sp pc kbchar : ℕ) → Cpu
-cpuOf sp pc kbchar = record {
-  regs = record { a = 0; b = 0; c = 0; sp = sp; pc = pc; count = 0 };
-  clock = record { timer = 0; timeout = 0; kbchar = kbchar; taken = 0 };
-  vadr = 0;
-  space = record { pdir = 0; paging = false };
-  system = record { usp = 0; ksp = 0; ivec = 0; user = false; iena = false; waiting = false };
-  stop = Running;
-  written = 0;
-}
+abbrev foundIn : Loaded → Found
+foundIn l = record { answer = loadNumber (l .answer); steps = 0; cpu = l .machine .cpu; mem = l .mem; console = [] }
 
-pub record-is-fresh : (loaded 4096 file) .machine .cpu ≡ cpuOf 4096 0 0xffffffff
+-- "pc = entry, sp = M, kbchar = 0xFFFFFFFF, all else 0 and the buffer empty": every number and flag of the record
+abbrev recordIs : (sp pc kbchar : ℕ) → List Fact
+recordIs x y z =
+    a is 0 ∷ b is 0 ∷ c is 0 ∷ sp is x ∷ usp is 0 ∷ ksp is 0 ∷ pc is y ∷ ivec is 0 ∷ pdir is 0 ∷ vadr is 0 ∷ timer is 0 ∷ timeout is 0 ∷ kbchar is z
+    ∷ user is 0 ∷ iena is 0 ∷ paging is 0 ∷ waiting is 0 ∷ stop is 0 ∷ count is 0 ∷ taken is 0 ∷ written is 0 ∷ []
+
+pub record-is-fresh : All (foundIn (loaded 4096 file)) (recordIs 4096 0 0xffffffff)
 unfolding loaded
-record-is-fresh = refl
+record-is-fresh = tt
 
 pub buffer-is-empty : (loaded 4096 file) .machine .held ≡ 0
 unfolding loaded
@@ -58,9 +52,9 @@ unfolding loaded
 memory-is-body = refl
 
 -- entry 4: pc 4
-pub entry-is-pc : (loaded 4096 (bytesOfAll (0xc0def00d ∷ 77 ∷ 4 ∷ 8 ∷ 0x9b ∷ 0x9b ∷ []))) .machine .cpu ≡ cpuOf 4096 4 0xffffffff
+pub entry-is-pc : All (foundIn (loaded 4096 (bytesOfAll (0xc0def00d ∷ 77 ∷ 4 ∷ 8 ∷ 0x9b ∷ 0x9b ∷ [])))) (recordIs 4096 4 0xffffffff)
 unfolding loaded
-entry-is-pc = refl
+entry-is-pc = tt
 
 -- ---- the run of it: "a machine of 32,768 bytes, no keys, a console of 4,096 bytes, budget 100,000"
 
@@ -164,9 +158,9 @@ files-are-right =
     end
 
 -- "A refused load returns an all-zero record and leaves memory"
-pub refused-record : (loaded 4096 (take 15 file)) .machine .cpu ≡ cpuOf 0 0 0
+pub refused-record : All (foundIn (loaded 4096 (take 15 file))) (recordIs 0 0 0)
 unfolding loaded
-refused-record = refl
+refused-record = tt
 
 pub refused-memory : (loaded 4096 (take 15 file)) .mem ≡ replicate 4096 0xaa
 unfolding loaded

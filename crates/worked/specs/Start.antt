@@ -57,12 +57,16 @@ enabled c = withSystem (withIena true (c .system)) c
 abbrev pub atRest : Cpu → Cpu
 atRest c = withSystem (withWaiting true (c .system)) c
 
+-- the one place in this crate that names every field of a part of the record
+abbrev putSpace : (paging : Bool) (pdir : ℕ) → Cpu → Cpu
+putSpace on x c = withSpace (record { pdir = x; paging = on }) c
+
 abbrev pub putPdir : ℕ → Cpu → Cpu
-putPdir x c = withSpace (record { pdir = x; paging = false }) c
+putPdir x c = putSpace false x c
 
 -- paging on, from this directory
 abbrev pub pagedFrom : ℕ → Cpu → Cpu
-pagedFrom x c = withSpace (record { pdir = x; paging = true }) c
+pagedFrom x c = putSpace true x c
 
 abbrev pub stoppedFor : Stop → Cpu → Cpu
 stoppedFor x c = withStop x c

@@ -7,9 +7,9 @@ use Rattle.rules.specs.Record.{putA}
 use Rattle.worked.specs.Start.{fresh, putB, putC, putSp, putPc, putKsp, putIvec, inUser, enabled, pagedFrom, _holds_, memory, small}
 use Rattle.worked.specs.Line.{a, b, c, sp, pc, usp, vadr, user, iena, stop, byte, word, _is_, Line, line, Both, Hold, done, _also_}
 
--- "P1 LI 0, LHI 0x927C00: a = 9,600,000"
+-- "P1 LI 0, LHI 0x927C00: a = 9,600,000". Register a is not 0 before, so that LI is seen
 abbrev pub P1 : Line
-P1 = line fresh (small (0x00000023 ∷ 0x927c0024 ∷ [])) 2 (a is 9600000 ∷ [])
+P1 = line (putA 0xabcdef12 fresh) (small (0x00000023 ∷ 0x927c0024 ∷ [])) 2 (a is 9600000 ∷ [])
 
 pub P1-holds : Both P1
 unfolding Both
@@ -113,11 +113,11 @@ pub P7-BGE-holds : Both P7-BGE
 unfolding Both
 P7-BGE-holds = (tt, tt)
 
--- "P8 a = 0x11223344, b = 0x103, SX 0: bytes 0x100 on are 44 33 22 11"
+-- "P8 a = 0x11223344, b = 0x103, SX 0: bytes 0x100 on are 44 33 22 11". The bytes beside them stay
 abbrev pub P8 : Line
 P8 =
-    line (putA 0x11223344 (putB 0x103 fresh)) (small (0x4a ∷ [])) 1
-    (byte 0x100 is 0x44 ∷ byte 0x101 is 0x33 ∷ byte 0x102 is 0x22 ∷ byte 0x103 is 0x11 ∷ byte 0x104 is 0 ∷ [])
+    line (putA 0x11223344 (putB 0x103 fresh)) (memory 4096 (0 holds (0x4a ∷ []) ∷ 0xfc holds (0xffffffff ∷ 0xffffffff ∷ 0xffffffff ∷ []) ∷ [])) 1
+    (byte 0xff is 0xff ∷ byte 0x100 is 0x44 ∷ byte 0x101 is 0x33 ∷ byte 0x102 is 0x22 ∷ byte 0x103 is 0x11 ∷ byte 0x104 is 0xff ∷ [])
 
 pub P8-holds : Both P8
 unfolding Both
@@ -154,38 +154,48 @@ pub P10-three-holds : Both P10-three
 unfolding Both
 P10-three-holds = (tt, tt)
 
--- "P11 M 16,384, pdir 0x1000, word there 0x2007, word at 0x2000 0x3007". The code lies on page 1, at physical address 0
+-- "P11 M 16,384, pdir 0x1000, word there 0x2007, word at 0x2000 0x3007". The code lies at 0x400100, physical address 0x100: its words are those at
+-- 0x1004 and at 0, so that a fetch marks neither word of the access
 abbrev P11-from : Cpu
-P11-from = pagedFrom 0x1000 (putPc 0x1000 fresh)
+P11-from = pagedFrom 0x1000 (putPc 0x400100 fresh)
 
-abbrev P11-mem : List ℕ
-P11-mem =
+-- the second word, the bytes from 0x100 on, and the page that the access reads
+abbrev P11-mem : (second : ℕ) → List ℕ → List ℕ
+P11-mem w code =
     memory 16384
-    (0 holds (0x101c ∷ 0x144a ∷ []) ∷ 0x1000 holds (0x2007 ∷ []) ∷ 0x2000 holds (0x3007 ∷ 0x0007 ∷ []) ∷ 0x3010 holds (0x1234 ∷ []) ∷ [])
+    (0 holds (0x0007 ∷ []) ∷ 0x100 holds code ∷ 0x1000 holds (0x2007 ∷ 0x0007 ∷ []) ∷ 0x2000 holds (w ∷ []) ∷ 0x3010 holds (0x1234 ∷ []) ∷ [])
 
 -- "kernel read of 0x10 is at 0x3010, words become 0x2027, 0x3027": LX 0x10
 abbrev pub P11-read : Line
-P11-read = line P11-from P11-mem 1 (a is 0x1234 ∷ word 0x1000 is 0x2027 ∷ word 0x2000 is 0x3027 ∷ [])
+P11-read = line P11-from (P11-mem 0x3007 (0x101c ∷ [])) 1 (a is 0x1234 ∷ word 0x1000 is 0x2027 ∷ word 0x2000 is 0x3027 ∷ [])
 
 pub P11-read-holds : Both P11-read
 unfolding Both
 P11-read-holds = (tt, tt)
 
--- "a write makes the second 0x3067": then SX 0x14
+-- "a write makes the second 0x3067": SX 0x14, as the first access
 abbrev pub P11-write : Line
-P11-write = line P11-from P11-mem 2 (word 0x3014 is 0x1234 ∷ word 0x1000 is 0x2027 ∷ word 0x2000 is 0x3067 ∷ [])
+P11-write =
+    line (putA 0x5678 P11-from) (P11-mem 0x3007 (0x144a ∷ [])) 1 (word 0x3014 is 0x5678 ∷ word 0x1000 is 0x2027 ∷ word 0x2000 is 0x3067 ∷ [])
 
 pub P11-write-holds : Both P11-write
 unfolding Both
 P11-write-holds = (tt, tt)
 
--- "P12 as P11, second word 0x4007: FMEM, word 0x4027". The stack lies on page 1 too; the slot of the code, FMEM, is not 0 before
+-- and after the read: LX 0x10, SX 0x14
+abbrev pub P11-read-write : Line
+P11-read-write =
+    line P11-from (P11-mem 0x3007 (0x101c ∷ 0x144a ∷ [])) 2 (word 0x3014 is 0x1234 ∷ word 0x1000 is 0x2027 ∷ word 0x2000 is 0x3067 ∷ [])
+
+pub P11-read-write-holds : Both P11-read-write
+unfolding Both
+P11-read-write-holds = (tt, tt)
+
+-- "P12 as P11, second word 0x4007: FMEM, word 0x4027": LX 0x10. The stack lies on the code's page; the slot of the code, FMEM, is not 0 before
 abbrev pub P12 : Line
 P12 =
-    line (enabled (putSp 0x1100 P11-from))
-    (memory 16384
-    (0 holds (0x101c ∷ []) ∷ 0xf0 holds (0xffffffff ∷ []) ∷ 0x1000 holds (0x2007 ∷ []) ∷ 0x2000 holds (0x4007 ∷ 0x0007 ∷ []) ∷ [])) 1
-    (word 0xf0 is 0 ∷ word 0xf8 is 0x1004 ∷ vadr is 0x10 ∷ a is 0 ∷ word 0x1000 is 0x2027 ∷ word 0x2000 is 0x4027 ∷ [])
+    line (enabled (putSp 0x400118 P11-from)) (P11-mem 0x4007 (0x101c ∷ 0 ∷ 0xffffffff ∷ [])) 1
+    (word 0x108 is 0 ∷ word 0x110 is 0x400104 ∷ vadr is 0x10 ∷ a is 0 ∷ word 0x1000 is 0x2027 ∷ word 0x2000 is 0x4027 ∷ [])
 
 pub P12-holds : Both P12
 unfolding Both
@@ -193,7 +203,7 @@ P12-holds = (tt, tt)
 
 abbrev pub lines : List Line
 lines =
-    P1 ∷ P2 ∷ P3-DIV ∷ P3-MOD ∷ P3-DVU ∷ P4-SHRI-31 ∷ P4-SRUI-31 ∷ P4-SHRI-32 ∷ P5 ∷ P6 ∷ P7-GE ∷ P7-BGE ∷ P8 ∷ P9 ∷ P10-two ∷ P10-three ∷ P11-read ∷ P11-write ∷ P12 ∷ []
+    P1 ∷ P2 ∷ P3-DIV ∷ P3-MOD ∷ P3-DVU ∷ P4-SHRI-31 ∷ P4-SRUI-31 ∷ P4-SHRI-32 ∷ P5 ∷ P6 ∷ P7-GE ∷ P7-BGE ∷ P8 ∷ P9 ∷ P10-two ∷ P10-three ∷ P11-read ∷ P11-write ∷ P11-read-write ∷ P12 ∷ []
 
 -- P1 to P12, each in both machines
 pub worked : Hold lines
@@ -216,5 +226,6 @@ worked =
     P10-three-holds also
     P11-read-holds also
     P11-write-holds also
+    P11-read-write-holds also
     P12-holds also
     done
