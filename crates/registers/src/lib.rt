@@ -3,7 +3,7 @@ ghost use mathlib.Core.Path.{_≡_};
 ghost use Rattle.word.specs.Word.{if_then_else_, sum};
 ghost use Rattle.rules.specs.Record.{setSp};
 ghost use Rattle.rules.specs.Transfer.{regOf, putReg, baseOf, highOf};
-ghost use Rattle.rules.specs.Jump.{target as targetOf, jumped};
+ghost use Rattle.rules.specs.Jump.{target as jumpTarget, jumped};
 use decode::Base;
 use decode::Reg;
 use rules::Regs;
@@ -62,7 +62,7 @@ pub fn adjust(r: Regs, imm: u32) -> Regs
 
 // The target of a jump or branch.
 pub fn target(r: Regs, imm: u32) -> u32
-    ensures { λ x. ⌜ x ≡ targetOf imm r ⌝ }
+    ensures { λ x. ⌜ x ≡ jumpTarget imm r ⌝ }
 {
     word::sum(r.pc, imm)
 }

@@ -1,16 +1,22 @@
 -- Document 01, "Opcodes": jumps, calls and returns. pc has moved 4 on already.
 use Prim.Native.Nat.{ℕ, _+_, _/_}
+use mathlib.Core.Path.{_≡_, refl}
 use mathlib.Core.Bool.{Bool}
 use Rattle.word.specs.Word.{if_then_else_, sum}
+use Rattle.decode.specs.Target.{targetFrom, targetOf}
 use Rattle.rules.specs.declared.Regs.{Regs}
-use Rattle.rules.specs.Record.{setSp, setPc}
+use Rattle.rules.specs.Record.{withPc, setSp, setPc}
 use Rattle.rules.specs.Tree.{Tree}
 use Rattle.rules.specs.Outcome.{Out, plain, reading}
 use Rattle.rules.specs.Transfer.{pushTree}
 
--- the target of a jump or branch: the instruction's address + 4 + imm, low bits kept
+-- the target of a jump or branch
 abbrev pub target : ℕ → Regs → ℕ
-target imm r = sum (r .pc) imm
+target imm r = targetFrom (r .pc) imm
+
+-- it is that of the instruction at the address which pc moved on from
+pub target-is-targetOf : (imm : ℕ) (r : Regs) → target imm (withPc (sum (r .pc) 4) r) ≡ targetOf (r .pc) imm
+target-is-targetOf imm r = refl
 
 abbrev pub jumped : ℕ → Regs → Regs
 jumped x r = setPc x r
