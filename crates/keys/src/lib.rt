@@ -2,10 +2,7 @@
 // packed in bytes.
 ghost use mathlib.Core.Path.{_≡_};
 ghost use mathlib.Core.Bool.{_&&_};
-ghost use Prim.Native.Nat.{_+_, _≤_};
 ghost use lib.Dec.{leb};
-ghost use lib.ListN.{length};
-ghost use Rattle.memory.specs.Memory.{loadN};
 ghost use Rattle.rules.specs.Run.{keysRise};
 ghost use Rattle.rules.specs.Clock.{nextOf};
 ghost use Rattle.keys.specs.Packed.{unpacked};
@@ -57,14 +54,6 @@ pub fn next_key(keys: &[Key], taken: usize) -> Next
 
 // ---- packed keys: nine bytes a key, eight of its step number, the lowest first, and its byte
 
-// A 64-bit number, its lowest byte first.
-fn load8(bytes: &[u8], at: usize) -> u64
-    requires { ⌜ at + 8 ≤ length (now bytes) ⌝ }
-    ensures { λ r. ⌜ r ≡ loadN 8 (now (bytes .entry)) at ⌝ }
-{
-    memory::load4(bytes, at) as u64 + 0x1_0000_0000 * memory::load4(bytes, at + 4) as u64
-}
-
 // Whether the step numbers of packed keys never fall.
 pub fn rising_packed(keys: &[u8]) -> bool
     ensures { λ r. ⌜ r ≡ keysRise 0 (unpacked (now (keys .entry))) ⌝ }
@@ -74,7 +63,7 @@ pub fn rising_packed(keys: &[u8]) -> bool
     let mut last = 0;
     let mut key = 0;
     while key < count {
-        let step = load8(keys, 9 * key);
+        let step = memory::load8(keys, 9 * key);
         ok = rises(ok, last, step);
         last = step;
         key += 1;
@@ -89,7 +78,7 @@ pub fn next_packed(keys: &[u8], taken: usize) -> Next
     if taken < keys.len() / 9 {
         return Next {
             some: true,
-            step: load8(keys, 9 * taken),
+            step: memory::load8(keys, 9 * taken),
             byte: keys[9 * taken + 8],
         };
     }

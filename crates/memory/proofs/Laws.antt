@@ -2,7 +2,7 @@
 use Prim.Native.Nat.{ℕ, zero, suc, _+_, _*_, _/_, _%_, _^_, _≤_, _<_}
 use mathlib.Core.List.{List, [], _∷_}
 use mathlib.Core.Logic.{_⊎_, inl, inr, ⊎-elim}
-use mathlib.Core.Path.{_≡_, refl, sym, _∙_}
+use mathlib.Core.Path.{_≡_, refl, sym, _∙_, ap}
 use native.Mathlib.Nat.{zero-add, add-zero, suc-add, add-suc, mul-assoc, pow-suc, pow-succ', div-one, mod-one, div-div-eq-div-mul}
 use native.Mathlib.Omega.{arith}
 use lib.Arith.{mod-mul}
@@ -27,6 +27,21 @@ unfolding storeN
 store-split zero b m at v = rw (zero-add b, add-zero at, div-one)
 store-split (suc a) b m at v =
     rw (suc-add, store-split a b (set m at (v % 256)) (suc at) (v / 256), suc-add, add-suc, pow-succ', div-div-eq-div-mul)
+
+-- powers of 256 are positive
+pow256-pos : (n : ℕ) → 0 < 256 ^ n
+pow256-pos zero = omega arith
+pow256-pos (suc n) = rw (pow-suc 256 n) (let h = pow256-pos n in omega (arith, h))
+
+-- a store of n bytes takes only the low n bytes of its number
+pub store-low : (n : ℕ) (m : List ℕ) (at v : ℕ) → storeN n m at (v % 256 ^ n) ≡ storeN n m at v
+unfolding storeN
+store-low zero m at v = refl
+store-low (suc n) m at v =
+    let e : v % 256 ^ suc n ≡ (v / 256 % 256 ^ n) * 256 + v % 256 = ap (λ (x : ℕ). v % x) (pow-suc 256 n) ∙ mod-mul v (pow256-pos n) (lit< tt) in
+    let low : v % 256 ^ suc n % 256 ≡ v % 256 = omega (arith, e) in
+    let rest : v % 256 ^ suc n / 256 ≡ v / 256 % 256 ^ n = omega (arith, e) in
+    rw (low, rest, store-low n (set m at (v % 256)) (suc at) (v / 256))
 
 -- ---- what a store keeps
 
@@ -59,11 +74,6 @@ pub load-other : (k n : ℕ) (m : List ℕ) (from at v : ℕ) → (from + k ≤ 
 load-other k n m from at v h =
     load-same k (storeN n m at v) m from
     (λ i p q. getD-store n m at v i 0 (⊎-elim (λ l. inl (omega arith)) (λ l. inr (omega arith)) h))
-
--- powers of 256 are positive
-pow256-pos : (n : ℕ) → 0 < 256 ^ n
-pow256-pos zero = omega arith
-pow256-pos (suc n) = rw (pow-suc 256 n) (let h = pow256-pos n in omega (arith, h))
 
 -- a load of what was stored
 pub load-stored : (n : ℕ) (m : List ℕ) (at v : ℕ) → at + n ≤ length m → loadN n (storeN n m at v) at ≡ v % 256 ^ n

@@ -35,6 +35,14 @@ pub fn load4(mem: &[u8], at: usize) -> u32
     load2(mem, at) as u32 + 65536 * load2(mem, at + 2) as u32
 }
 
+// Eight bytes, the lowest first.
+pub fn load8(mem: &[u8], at: usize) -> u64
+    requires { ⌜ at + 8 ≤ length (now mem) ⌝ }
+    ensures { λ r. ⌜ r ≡ loadN 8 (now (mem .entry)) at ⌝ }
+{
+    load4(mem, at) as u64 + 0x1_0000_0000 * load4(mem, at + 4) as u64
+}
+
 // The low byte of v.
 pub fn store1(mem: &mut [u8], at: usize, v: u32)
     requires { ⌜ at + 1 ≤ length (now mem) ⌝ }
@@ -59,6 +67,15 @@ pub fn store4(mem: &mut [u8], at: usize, v: u32)
 {
     store2(mem, at, v);
     store2(mem, at + 2, v / 65536);
+}
+
+// The eight bytes of v, the lowest first.
+pub fn store8(mem: &mut [u8], at: usize, v: u64)
+    requires { ⌜ at + 8 ≤ length (now mem) ⌝ }
+    ensures { λ _. ⌜ now (mem .exit) ≡ storeN 8 (now (mem .entry)) at v ⌝ }
+{
+    store4(mem, at, (v % 0x1_0000_0000) as u32);
+    store4(mem, at + 4, (v / 0x1_0000_0000) as u32);
 }
 
 // The bytes of a size as an unsigned number.

@@ -1,10 +1,10 @@
--- `keys::load8` meets its contract. Assumes nothing.
+-- `memory::load8` meets its contract. Assumes nothing.
 use Rattle.memory.proofs.Laws.{load-split}
 use denote.Ref.{now}
 use native.Mathlib.Omega.{arith}
 use borrow.Author.Needs.{needs}
-use Rattle.keys.proofs.load8.Statement.{statement}
-use Rattle.keys.proofs.load8.Tie as tie
+use Rattle.memory.proofs.load8.Statement.{statement}
+use Rattle.memory.proofs.load8.Tie as tie
 
 load4-requires : tie.Need-load4-requires
 load4-requires c κs = search needs
@@ -28,7 +28,7 @@ add-result : tie.Need-add-result
 add-result c = search needs
 
 returns : tie.Need-returns
-returns c = let a = c .before .before .before .args in omega (arith, load-split 4 4 (now (a .bytes)) (a .at))
+returns c = let a = c .before .before .before .args in omega (arith, load-split 4 4 (now (a .mem)) (a .at))
 
 pub load8-spec : {M : Type 1} → statement M
 load8-spec =
