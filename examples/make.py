@@ -9,14 +9,17 @@ from pathlib import Path
 
 HERE = Path(__file__).resolve().parent
 OPCODES = {
-    "HALT": 0x00, "JMP": 0x03, "LL": 0x0E, "LX": 0x1C, "LI": 0x23, "LHI": 0x24, "LBI": 0x3B, "SL": 0x40, "SX": 0x4A,
-    "ADDI": 0x54, "BE": 0x88, "STI": 0x97, "RTI": 0x98, "BOUT": 0x9A, "PSHA": 0x9D, "POPA": 0xA3, "IVEC": 0xA4,
-    "PDIR": 0xA5, "SPAG": 0xA6, "TRAP": 0xA9, "SUSP": 0xAB,
+    "HALT": 0x00, "LEV": 0x02, "JMP": 0x03, "JSR": 0x05, "MCPY": 0x0A, "LL": 0x0E, "LG": 0x15, "LX": 0x1C, "LI": 0x23, "LHI": 0x24,
+    "LBL": 0x26, "LBG": 0x2D, "LBI": 0x3B, "LBA": 0x3E, "SL": 0x40, "SG": 0x45, "SX": 0x4A, "ADDI": 0x54, "MULI": 0x5A, "DVU": 0x5F,
+    "DVUI": 0x60, "MDUI": 0x66, "BZ": 0x84, "BE": 0x88, "STI": 0x97, "RTI": 0x98, "BIN": 0x99, "BOUT": 0x9A, "PSHA": 0x9D, "POPA": 0xA3,
+    "IVEC": 0xA4, "PDIR": 0xA5, "SPAG": 0xA6, "TIME": 0xA7, "LVAD": 0xA8, "TRAP": 0xA9, "SUSP": 0xAB, "LCA": 0xAD, "IDLE": 0xD1,
 }
+# whose imm is added to the pc that has moved on
+RELATIVE = {"JMP", "JSR", "LG", "LBG", "SG", "BZ", "BE"}
 
 
 def assemble(lines):
-    """The words of a program: each line an opcode, and a number or a label; a line `name:` sets a label."""
+    """The words of a program, and its labels: each line an opcode, and a number or a label; `WORD n` is the number itself; a line `name:` sets a label."""
     labels, at = {}, 0
     for line in lines:
         if line.endswith(":"):
@@ -33,17 +36,19 @@ def assemble(lines):
             imm = 0
         elif operand not in labels:
             imm = int(operand, 0)
-        elif name in ("JMP", "BE"):
+        elif name in RELATIVE:
             imm = labels[operand] - at
         else:
             imm = labels[operand]
-        words.append((imm & 0xFFFFFF) << 8 | OPCODES[name])
-    return words
+        words.append(imm if name == "WORD" else (imm & 0xFFFFFF) << 8 | OPCODES[name])
+    return words, labels
 
 
 def write(name, program, entry=0):
-    words = assemble([line for line in map(str.strip, program.splitlines()) if line])
-    header = [0xC0DEF00D, 0, entry, 4 * len(words)]
+    """Writes a program. A comment runs from `;` to the end of its line; data start at the label `data`, or at the end."""
+    lines = (line.partition(";")[0].strip() for line in program.splitlines())
+    words, labels = assemble([line for line in lines if line])
+    header = [0xC0DEF00D, 0, entry, labels.get("data", 4 * len(words))]
     (HERE / name).write_bytes(struct.pack(f"<{4 + len(words)}I", *header, *words))
 
 
@@ -129,6 +134,121 @@ write("trap.v9", """
     POPA
     ADDI 100
     RTI
+""")
+
+# a feed rate: grams and seconds are data; the rate in grams an hour stays in c and goes to the console in decimal
+write("feed.v9", """
+    LG grams
+    MULI 3600
+    LBG seconds
+    DVU
+    LCA
+    JSR decimal
+    LBI 10              ; a newline
+    BOUT
+    HALT
+    decimal:            ; a in decimal: the quotient by ten first, then the remainder's digit
+    PSHA
+    DVUI 10
+    BZ last
+    JSR decimal
+    last:
+    POPA
+    MDUI 10
+    ADDI 0x30
+    LBA
+    BOUT
+    LEV 0
+    data:
+    grams:
+    WORD 40
+    seconds:
+    WORD 15
+""")
+
+# a timer and the keyboard: the program waits, and the handler does the work. It saves no register, since the program keeps none
+write("ticks.v9", """
+    LI handler
+    IVEC
+    LI 99               ; the timer fires every 100 steps: at timer + 1 > 99
+    TIME
+    STI
+    wait:
+    IDLE
+    JMP wait
+    handler:
+    LL 0                ; the trap's code: 1 the timer, 2 a key
+    LBI 2
+    BE key
+    LBI 0x2E            ; a tick: a dot on the console, and one more in `ticks`
+    BOUT
+    LG ticks
+    ADDI 1
+    SG ticks
+    LBI 5
+    BE enough
+    RTI
+    key:                ; a key: its byte on the console, and no tick
+    BIN
+    LBA
+    BOUT
+    RTI
+    enough:
+    HALT
+    data:
+    ticks:
+    WORD 0
+""")
+
+# user mode under paging: a recipe on a page of its own prints a byte by a system call, and is stopped where it writes to the controller's stack
+write("recipe.v9", """
+    LI handler
+    IVEC
+    LI 20               ; the recipe's five words go to frame 3
+    LCA
+    LI 0x3000
+    LBI recipe
+    MCPY
+    LI 0x2007           ; the directory at 0x1000: its first word leads to the table at 0x2000
+    LBI 0x1000
+    SX 0
+    LBI 0x2000
+    LI 0x0003           ; page 0, this program: P and W, and no U
+    SX 0
+    LI 0x7003           ; page 7, its stack: the same
+    SX 28
+    LI 0x3007           ; page 16, the recipe: P, W and U
+    SX 64
+    LI 0x1000
+    PDIR
+    LI 1
+    SPAG
+    LI 0x11000          ; the recipe's stack is the end of its page
+    SUSP
+    LI 0x10000          ; RTI takes the mark 16 and this pc from the stack, and is in user mode
+    PSHA
+    LI 16
+    PSHA
+    RTI
+    handler:
+    PSHA
+    LL 8                ; the code: 21 is TRAP from user mode
+    LBI 21
+    BE print
+    LVAD                ; anything else ends the recipe: a is the address, b the code
+    LBL 8
+    HALT
+    print:
+    POPA
+    LBA
+    BOUT
+    RTI
+    recipe:             ; runs at 0x10000
+    LI 0x52
+    TRAP                ; `R` on the console
+    LBI 0x7FF8
+    SX 0                ; a write to page 7: FWPAGE 8, and 16 from user mode
+    HALT
 """)
 
 # a jump to itself: the budget ends the run
