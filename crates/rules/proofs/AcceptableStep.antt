@@ -172,7 +172,7 @@ module _ (size keys room : ℕ) (s : Space) (d : Directory size (s .pdir)) where
   -- something is due, or nothing
   due-acceptable : (due : Option ℕ) (c : Cpu) → Acceptable size keys room c → AllAcceptable (dueTree due size room c)
   unfolding dueTree
-  due-acceptable (some code) c g = deliver-acceptable (awake c) code (c .regs .pc) (g .passes)
+  due-acceptable (some code) c g = deliver-acceptable (awake c) code _ (g .passes)
   due-acceptable none c g =
       leaves-if (c .system .waiting) (ended-acceptable (g .passes))
       (leaves-then (settleTree size room c) (instruction-aligned (c .regs) (omega (arith, g .passes))) (settle-acceptable c g))

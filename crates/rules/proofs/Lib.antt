@@ -6,6 +6,8 @@ pub mod StepAgrees
 pub mod SoundStep
 pub mod AcceptableRecord
 pub mod AcceptedRun
+mod InterruptFrame
+pub mod NoSteps
 pub mod StepCount
 pub mod AlignedInstruction
 pub mod AcceptableStep

@@ -111,7 +111,7 @@ module _ (s : Space) (h : s .pdir % 4 ≡ 0) where
   -- something is due, or nothing
   due-aligned : (due : Option ℕ) (size room : ℕ) (c : Cpu) → c .space .pdir % 4 ≡ 0 → Aligned (dueTree due size room c)
   unfolding dueTree
-  due-aligned (some code) size room c e = deliver-aligned (awake c) code (c .regs .pc)
+  due-aligned (some code) size room c e = deliver-aligned (awake c) code _
   due-aligned none size room c e =
       leaves-if (c .system .waiting) (ended-aligned c)
       (leaves-bind (instructionTree (c .regs)) (settleTree size room c) (settle-aligned size room c e))
