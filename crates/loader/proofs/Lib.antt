@@ -1,2 +1,3 @@
 mod Image
 pub mod Accepted
+pub mod Refused

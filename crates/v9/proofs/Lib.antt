@@ -1,4 +1,5 @@
 pub mod Accepted
+pub mod Refused
 pub mod UnderWay
 pub mod Packed
 pub mod Again
