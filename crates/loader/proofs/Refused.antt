@@ -13,7 +13,8 @@ use Rattle.loader.specs.Loader.{loadedWith}
 -- a load gave r and left mem′
 module _ (file mem : List ℕ) {r : Result} {mem′ : List ℕ} where
   -- by each answer
-  refused-as : (a : LoadAnswer) → loadedWith r mem′ ≡ loadBy a file mem → (loadNumber (r .answer) ≡ 0 → ⊥) → (r .machine ≡ emptyMachine zeroCpu) × (mem′ ≡ mem)
+  refused-as : (a : LoadAnswer) → loadedWith r mem′ ≡ loadBy a file mem → (loadNumber (r .answer) ≡ 0 → ⊥)
+      → (r .machine ≡ emptyMachine zeroCpu) × (mem′ ≡ mem)
   refused-as Accepted e h = absurd (h (ap (λ (l : Loaded). loadNumber (l .answer)) e))
   refused-as BadSize e h = (ap (λ (l : Loaded). l .machine) e, ap (λ (l : Loaded). l .mem) e)
   refused-as ShortFile e h = (ap (λ (l : Loaded). l .machine) e, ap (λ (l : Loaded). l .mem) e)
