@@ -3,6 +3,7 @@ use Prim.Native.Nat.{ℕ}
 use mathlib.Core.Bool.{true, false}
 use mathlib.Core.List.{List, []}
 use lib.Dec.{eqb}
+use lib.ListN.{replicate}
 use Rattle.word.specs.Word.{if_then_else_}
 use Rattle.paging.specs.declared.Entry.{Entry}
 use Rattle.paging.specs.Translate.{buffered}
@@ -32,3 +33,8 @@ loadedLine l con = if eqb (loadNumber (l .answer)) 0 then ranLine (runOf l con) 
 -- what is printed of a file, by a machine of memory m and console con
 unfoldable pub lineOf : (file m con : List ℕ) → List ℕ
 lineOf file m con = loadedLine (load file m) con
+
+-- what the run program prints of a file: "a machine of 32,768 bytes, no keys, a console of 4,096 bytes, budget 100,000"
+unfoldable pub programLine : List ℕ → List ℕ
+unfolding lineOf
+programLine file = lineOf file (replicate 32768 0) (replicate 4096 0)
