@@ -159,7 +159,7 @@ P10-three-holds = (tt, tt)
 abbrev P11-from : Cpu
 P11-from = pagedFrom 0x1000 (putPc 0x400100 fresh)
 
--- the second word, the bytes from 0x100 on, and the page that the access reads
+-- its memory, by the second word and the words from 0x100 on
 abbrev P11-mem : (second : ℕ) → List ℕ → List ℕ
 P11-mem w code =
     memory 16384
@@ -191,11 +191,11 @@ pub P11-read-write-holds : Both P11-read-write
 unfolding Both
 P11-read-write-holds = (tt, tt)
 
--- "P12 as P11, second word 0x4007: FMEM, word 0x4027": LX 0x10. The stack lies on the code's page; the slot of the code, FMEM, is not 0 before
+-- "P12 as P11, second word 0x4007: FMEM, word 0x4027": LX 0, a = 0x10. The stack lies on the code's page; the slot of the code, FMEM, is not 0 before
 abbrev pub P12 : Line
 P12 =
-    line (enabled (putSp 0x400118 P11-from)) (P11-mem 0x4007 (0x101c ∷ 0 ∷ 0xffffffff ∷ [])) 1
-    (word 0x108 is 0 ∷ word 0x110 is 0x400104 ∷ vadr is 0x10 ∷ a is 0 ∷ word 0x1000 is 0x2027 ∷ word 0x2000 is 0x4027 ∷ [])
+    line (enabled (putA 0x10 (putSp 0x400118 P11-from))) (P11-mem 0x4007 (0x1c ∷ 0 ∷ 0xffffffff ∷ [])) 1
+    (word 0x108 is 0 ∷ word 0x110 is 0x400104 ∷ vadr is 0x10 ∷ a is 0x10 ∷ word 0x1000 is 0x2027 ∷ word 0x2000 is 0x4027 ∷ [])
 
 pub P12-holds : Both P12
 unfolding Both
