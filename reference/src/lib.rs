@@ -4,6 +4,7 @@
 #![forbid(unsafe_code)]
 
 pub mod access;
+pub mod broken;
 pub mod buffer;
 pub mod case;
 pub mod clock;
@@ -13,7 +14,6 @@ pub mod digest;
 pub mod directed;
 pub mod exec;
 pub mod expect;
-
 pub mod line;
 pub mod line_files;
 pub mod load;

@@ -1,11 +1,12 @@
 //! The commands; `README.md` describes them.
 
-use reference::case::decode::{read_all, read_case};
+use reference::broken::streams;
+use reference::case::decode::{read_all, Broken};
 use reference::case::encode::encode;
 use reference::case::Case;
 use reference::compare::{compare, Question, Verdict};
 use reference::coverage::Coverage;
-use reference::expect::expect;
+use reference::expect::{expect, play};
 use reference::line::line;
 use reference::line_files;
 use reference::mistake::Mistake;
@@ -13,7 +14,7 @@ use reference::mutants::Judge;
 use reference::random::executables::random_file;
 use reference::random::scene::{case, Purpose};
 use reference::stored::stored_set;
-use std::io::{self, BufReader, BufWriter, Read, Write};
+use std::io::{self, BufWriter, Read, Write};
 use std::ops::Range;
 use std::process::ExitCode;
 
@@ -31,6 +32,7 @@ const USAGE: &str = "usage:
   reference random-files [--seed S] [--first F] [--count N]
                                                 many, each after its length (u32)
   reference write-files                         executables, each with its length in front
+  reference write-broken                        broken streams, each with its length in front
   reference lines < files                       the run program's line of each";
 
 type Done = Result<(), String>;
@@ -63,6 +65,7 @@ fn command(words: &[String]) -> Done {
         "random-file" => print_file(seed, option(options, "--number", 0)?),
         "random-files" => print_files(seed, numbers),
         "write-files" => write_files(),
+        "write-broken" => write_broken(),
         "lines" => print_lines(),
         _ => Err(USAGE.to_string()),
     }
@@ -86,31 +89,22 @@ fn write_all(cases: impl Iterator<Item = Case>) -> Done {
     output.flush().map_err(text)
 }
 
-fn each_case(mut visit: impl FnMut(usize, Case) -> Done) -> Done {
-    let mut input = BufReader::new(io::stdin().lock());
-    let mut number = 0;
-    while let Some(case) = read_case(&mut input)? {
-        visit(number, case)?;
-        number += 1;
-    }
-    Ok(())
+fn read_cases() -> Result<Vec<Case>, String> {
+    let broken = |broken: Broken| format!("the stream of cases is broken: {broken}");
+    read_all(&input()?).map_err(broken)
 }
 
 fn print_expected() -> Done {
     let mut output = BufWriter::new(io::stdout().lock());
-    each_case(|number, case| {
-        let expected = expect(number, &case, None);
-        expected.lines.iter().try_for_each(|line| writeln!(output, "{line}")).map_err(text)
-    })?;
+    expect(&input()?, &mut output).map_err(text)?;
     output.flush().map_err(text)
 }
 
 fn print_coverage() -> Done {
     let mut coverage = Coverage::default();
-    each_case(|number, case| {
-        coverage.add(&expect(number, &case, None).coverage);
-        Ok(())
-    })?;
+    for case in read_cases()? {
+        coverage.add(&play(&case, None).coverage);
+    }
     let answers: Vec<u32> = (0..12).collect();
     print!("{}", coverage.report());
     println!("missing: {:?}", coverage.missing(&answers));
@@ -157,6 +151,15 @@ fn print_lines() -> Done {
     Ok(())
 }
 
+fn write_broken() -> Done {
+    let list = streams().into_iter().flat_map(|(_, stream)| with_length(&stream));
+    io::stdout().lock().write_all(&list.collect::<Vec<u8>>()).map_err(text)
+}
+
+fn with_length(bytes: &[u8]) -> Vec<u8> {
+    [&(bytes.len() as u32).to_le_bytes(), bytes].concat()
+}
+
 fn print_file(seed: u64, number: u64) -> Done {
     io::stdout().lock().write_all(&random_file(seed, number)).map_err(text)
 }
@@ -164,15 +167,13 @@ fn print_file(seed: u64, number: u64) -> Done {
 fn print_files(seed: u64, numbers: Range<u64>) -> Done {
     let mut output = BufWriter::new(io::stdout().lock());
     for number in numbers {
-        let file = random_file(seed, number);
-        output.write_all(&(file.len() as u32).to_le_bytes()).map_err(text)?;
-        output.write_all(&file).map_err(text)?;
+        output.write_all(&with_length(&random_file(seed, number))).map_err(text)?;
     }
     output.flush().map_err(text)
 }
 
 fn print_mutants() -> Done {
-    let cases = read_all(io::stdin().lock())?;
+    let cases = read_cases()?;
     let judge = Judge::new(&cases);
     let mut untold = 0;
     for mistake in Mistake::ALL {

@@ -2,24 +2,23 @@
 //! output differs from what must come out.
 
 use crate::case::Case;
-use crate::expect::expect;
+use crate::expect::{play, Shown};
 use crate::mistake::Mistake;
 
 /// What must come out of each case, kept for all mistakes.
 pub struct Judge<'a> {
     cases: &'a [Case],
-    lines: Vec<Vec<String>>,
+    shown: Vec<Vec<Shown>>,
 }
 
 impl<'a> Judge<'a> {
     pub fn new(cases: &'a [Case]) -> Judge<'a> {
-        let lines = |(number, case)| expect(number, case, None).lines;
-        Judge { cases, lines: cases.iter().enumerate().map(lines).collect() }
+        Judge { cases, shown: cases.iter().map(|case| play(case, None).shown).collect() }
     }
 
     /// Whether this case tells the mistake apart.
     pub fn tells(&self, number: usize, mistake: Mistake) -> bool {
-        expect(number, &self.cases[number], Some(mistake)).lines != self.lines[number]
+        play(&self.cases[number], Some(mistake)).shown != self.shown[number]
     }
 
     /// The first case that tells the mistake apart.

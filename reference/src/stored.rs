@@ -6,7 +6,7 @@ use crate::case::encode::encode;
 use crate::case::Case;
 use crate::coverage::Coverage;
 use crate::directed::all;
-use crate::expect::{expect, Expected};
+use crate::expect::{lines, play, Played};
 use crate::mistake::Mistake;
 use crate::random::scene::{case, Purpose};
 
@@ -14,7 +14,7 @@ use crate::random::scene::{case, Purpose};
 const SEED: u64 = 9;
 const TRIED: u64 = 4000;
 /// A random case's bytes and output may not be longer than this together.
-const LONGEST: usize = 3000;
+const LONGEST: usize = 5000;
 /// How many cases shall tell each mistake apart, if so many are found.
 const TELLING: u32 = 4;
 
@@ -27,25 +27,23 @@ struct Chosen {
 
 impl Chosen {
     /// Adds a case and counts what it shows.
-    fn add(&mut self, case: Case, expected: &Expected) {
-        let number = self.cases.len();
+    fn add(&mut self, case: Case, played: &Played) {
         for (count, mistake) in self.told.iter_mut().zip(Mistake::ALL) {
-            *count += u32::from(expect(number, &case, Some(*mistake)).lines != expected.lines);
+            *count += u32::from(play(&case, Some(*mistake)).shown != played.shown);
         }
-        self.coverage.add(&expected.coverage);
+        self.coverage.add(&played.coverage);
         self.cases.push(case);
     }
 
     /// Whether the case reaches something new or tells a mistake apart that
     /// too few have told.
-    fn wants(&mut self, case: &Case, expected: &Expected) -> bool {
+    fn wants(&mut self, case: &Case, played: &Played) -> bool {
         let before = self.coverage.missing(&[]).len();
         let mut with = self.coverage.clone();
-        with.add(&expected.coverage);
-        let number = self.cases.len();
+        with.add(&played.coverage);
         with.missing(&[]).len() < before
             || self.told.iter().zip(Mistake::ALL).any(|(count, mistake)| {
-                *count < TELLING && expect(number, case, Some(*mistake)).lines != expected.lines
+                *count < TELLING && play(case, Some(*mistake)).shown != played.shown
             })
     }
 }
@@ -54,17 +52,18 @@ impl Chosen {
 pub fn stored_set() -> Vec<Case> {
     let told = vec![0; Mistake::ALL.len()];
     let mut chosen = Chosen { cases: Vec::new(), coverage: Coverage::default(), told };
-    for (number, (_, case)) in all().into_iter().enumerate() {
-        let expected = expect(number, &case, None);
-        chosen.add(case, &expected);
+    for (_, case) in all() {
+        let played = play(&case, None);
+        chosen.add(case, &played);
     }
     for number in 0..TRIED {
         let candidate = case(SEED, number, Purpose::Any);
-        let expected = expect(chosen.cases.len(), &candidate, None);
-        let output: usize = expected.lines.iter().map(|line| line.len() + 1).sum();
+        let played = play(&candidate, None);
+        let lines = lines(chosen.cases.len(), &candidate, &played);
+        let output: usize = lines.iter().map(|line| line.len() + 1).sum();
         let short = encode(&candidate).len() + output <= LONGEST;
-        if short && chosen.wants(&candidate, &expected) {
-            chosen.add(candidate, &expected);
+        if short && chosen.wants(&candidate, &played) {
+            chosen.add(candidate, &played);
         }
     }
     chosen.cases

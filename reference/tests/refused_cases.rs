@@ -5,14 +5,14 @@ use common::{after, runs};
 use reference::case::Case;
 use reference::directed::all;
 use reference::directed::refusals::cases;
-use reference::expect::expect;
+use reference::expect::{lines, play};
 
 #[test]
 fn the_numbers_in_the_names() {
     for (name, case) in cases() {
         let digits = name.trim_start_matches("load ").split(' ').next().unwrap();
         let number: u64 = digits.parse().unwrap_or(0);
-        let lines = expect(0, &case, None).lines;
+        let lines = lines(0, &case, &play(&case, None));
         let answer: u64 = lines[0].split(' ').nth(2).unwrap().parse().unwrap();
         assert_eq!(answer, number, "{name}");
     }

@@ -1,50 +1,104 @@
 //! Reading cases, one at a time, in the format of FORMAT.md.
 
-use super::{Case, Load, RunInput, Runs, KIND_LOAD, KIND_RUNS};
+use super::numbers::{registers, NAMES};
+use super::{Case, Load, RunInput, Runs, ALL_ENTRIES, KIND_LOAD, KIND_RUNS};
 use super::{MAX_CASE, MAX_CONSOLE, MAX_KEYS, MAX_MEMORY, MAX_RUNS};
-use crate::types::{Buffer, Entry, Key, Record, Registers, Stop, CAPACITY};
-use std::io::Read;
+use crate::types::{Buffer, Entry, Key, Record, Registers, CAPACITY};
+use std::fmt;
 
-/// The next case, or `None` at the end of the list.
-pub fn read_case(input: &mut impl Read) -> Result<Option<Case>, String> {
-    let mut prefix = Vec::new();
-    input.take(4).read_to_end(&mut prefix).map_err(|error| error.to_string())?;
-    if prefix.is_empty() {
+/// How a stream is broken.
+#[derive(Clone, Copy, Debug, PartialEq, Eq)]
+pub enum Broken {
+    /// It ends within a case.
+    Cut,
+    /// A case is beyond the format's bounds.
+    Bounds,
+    /// A case's parts don't fit its length, or contradict each other.
+    Malformed,
+}
+
+impl fmt::Display for Broken {
+    fn fmt(&self, f: &mut fmt::Formatter) -> fmt::Result {
+        f.write_str(match self {
+            Broken::Cut => "cut",
+            Broken::Bounds => "bounds",
+            Broken::Malformed => "malformed",
+        })
+    }
+}
+
+/// The cases of a stream. Nothing comes after a broken one.
+pub struct Stream<'a>(pub &'a [u8]);
+
+impl Iterator for Stream<'_> {
+    type Item = Result<Case, Broken>;
+
+    fn next(&mut self) -> Option<Self::Item> {
+        let case = match split(self.0) {
+            Ok(None) => return None,
+            Ok(Some((bytes, rest))) => {
+                self.0 = rest;
+                decode(bytes)
+            }
+            Err(broken) => Err(broken),
+        };
+        if case.is_err() {
+            self.0 = &[];
+        }
+        Some(case)
+    }
+}
+
+/// All cases of a stream.
+pub fn read_all(bytes: &[u8]) -> Result<Vec<Case>, Broken> {
+    Stream(bytes).collect()
+}
+
+/// A case's bytes after its length, and what follows them.
+fn split(bytes: &[u8]) -> Result<Option<(&[u8], &[u8])>, Broken> {
+    if bytes.is_empty() {
         return Ok(None);
     }
-    let length = Cursor(&prefix).get32()? as usize;
+    let (prefix, rest) = bytes.split_at_checked(4).ok_or(Broken::Cut)?;
+    let length = Cursor(prefix).size()?;
     if length == 0 {
         return Ok(None);
     }
-    if !(4..=MAX_CASE).contains(&length) {
-        return Err(format!("a case of {length} bytes"));
+    if length > MAX_CASE {
+        return Err(Broken::Bounds);
     }
-    let mut rest = vec![0; length - 4];
-    input.read_exact(&mut rest).map_err(|error| error.to_string())?;
-    decode(&rest).map(Some)
-}
-
-/// All cases of a list.
-pub fn read_all(mut input: impl Read) -> Result<Vec<Case>, String> {
-    let mut cases = Vec::new();
-    while let Some(case) = read_case(&mut input)? {
-        cases.push(case);
+    if length > bytes.len() {
+        return Err(Broken::Cut);
     }
-    Ok(cases)
+    let after_prefix = length.checked_sub(4).ok_or(Broken::Malformed)?;
+    Ok(Some(rest.split_at(after_prefix)))
 }
 
 /// A case from its bytes after the length.
-fn decode(bytes: &[u8]) -> Result<Case, String> {
+fn decode(bytes: &[u8]) -> Result<Case, Broken> {
     let mut cursor = Cursor(bytes);
     let case = match cursor.get32()? {
         KIND_RUNS => Case::Runs(Box::new(cursor.runs()?)),
         KIND_LOAD => Case::Load(cursor.load()?),
-        kind => return Err(format!("case kind {kind}")),
+        _ => return Err(Broken::Malformed),
     };
-    if cursor.0.is_empty() {
-        Ok(case)
+    well_formed(cursor.0.is_empty())?;
+    Ok(case)
+}
+
+fn well_formed(holds: bool) -> Result<(), Broken> {
+    if holds {
+        Ok(())
     } else {
-        Err(format!("{} bytes after a case's end", cursor.0.len()))
+        Err(Broken::Malformed)
+    }
+}
+
+fn within(holds: bool) -> Result<(), Broken> {
+    if holds {
+        Ok(())
+    } else {
+        Err(Broken::Bounds)
     }
 }
 
@@ -52,115 +106,97 @@ fn decode(bytes: &[u8]) -> Result<Case, String> {
 struct Cursor<'a>(&'a [u8]);
 
 impl<'a> Cursor<'a> {
-    fn take(&mut self, length: usize) -> Result<&'a [u8], String> {
-        if length > self.0.len() {
-            return Err("a case ends early".to_string());
-        }
-        let (taken, rest) = self.0.split_at(length);
+    fn take(&mut self, length: usize) -> Result<&'a [u8], Broken> {
+        let (taken, rest) = self.0.split_at_checked(length).ok_or(Broken::Malformed)?;
         self.0 = rest;
         Ok(taken)
     }
 
-    fn get32(&mut self) -> Result<u32, String> {
-        Ok(self.number(4)? as u32)
-    }
-
-    fn get64(&mut self) -> Result<u64, String> {
-        self.number(8)
-    }
-
-    fn number(&mut self, size: usize) -> Result<u64, String> {
+    fn number(&mut self, size: usize) -> Result<u64, Broken> {
         let bytes = self.take(size)?;
         Ok(bytes.iter().rev().fold(0, |number, byte| (number << 8) | u64::from(*byte)))
     }
 
-    fn length(&mut self, bound: usize) -> Result<usize, String> {
-        let length = self.get32()? as usize;
-        if length > bound {
-            return Err(format!("{length} is beyond the format's {bound}"));
-        }
-        Ok(length)
+    fn get32(&mut self) -> Result<u32, Broken> {
+        Ok(self.number(4)? as u32)
     }
 
-    fn flag(&mut self, size: usize) -> Result<bool, String> {
-        match self.number(size)? {
-            0 => Ok(false),
-            1 => Ok(true),
-            other => Err(format!("flag {other}")),
-        }
+    fn get64(&mut self) -> Result<u64, Broken> {
+        self.number(8)
     }
 
-    fn load(&mut self) -> Result<Load, String> {
-        let memory_length = self.length(MAX_MEMORY)?;
-        let fill = self.length(255)? as u8;
-        let file_length = self.length(MAX_CASE)?;
+    fn size(&mut self) -> Result<usize, Broken> {
+        Ok(self.get32()? as usize)
+    }
+
+    fn sizes<const N: usize>(&mut self) -> Result<[usize; N], Broken> {
+        let mut sizes = [0; N];
+        for size in &mut sizes {
+            *size = self.size()?;
+        }
+        Ok(sizes)
+    }
+
+    fn load(&mut self) -> Result<Load, Broken> {
+        let [memory_length, fill, file_length] = self.sizes()?;
+        within(memory_length <= MAX_MEMORY)?;
+        let fill = fill.try_into().map_err(|_| Broken::Malformed)?;
         Ok(Load { memory_length, fill, file: self.take(file_length)?.to_vec() })
     }
 
-    fn runs(&mut self) -> Result<Runs, String> {
-        let mut memory = vec![0; self.length(MAX_MEMORY)?];
-        let mut console = vec![0; self.length(MAX_CONSOLE)?];
-        let regs = self.registers()?;
-        let count = self.get32()?;
-        let slots = self.length(CAPACITY)?;
-        let chunks = self.length(MAX_MEMORY)?;
-        let console_given = self.length(console.len())?;
-        let runs = self.length(MAX_RUNS)?;
-        let buffer = self.buffer(count, slots)?;
-        for _ in 0..chunks {
-            let (start, length) = (self.get32()? as usize, self.get32()? as usize);
-            let place = memory.get_mut(start..start + length).ok_or("a chunk beyond memory")?;
-            place.copy_from_slice(self.take(length)?);
-        }
-        console[..console_given].copy_from_slice(self.take(console_given)?);
+    /// The bounds of what the header says come before all else in it.
+    fn runs(&mut self) -> Result<Runs, Broken> {
+        let [entries, memory_length, console_length, count, slots, chunks, given, runs] =
+            self.sizes()?;
+        let [keys, written] = [self.get64()?, self.get64()?];
+        let numbers = self.size()?;
+        within(memory_length <= MAX_MEMORY && console_length <= MAX_CONSOLE && runs <= MAX_RUNS)?;
+        well_formed((1..=ALL_ENTRIES as usize).contains(&entries) && numbers == NAMES.len())?;
+        well_formed(slots <= CAPACITY && given <= console_length)?;
+        let numbers = (0..numbers).map(|_| self.get64()).collect::<Result<Vec<_>, _>>()?;
+        let regs = registers(&numbers).ok_or(Broken::Malformed)?;
+        let record = Record {
+            regs: Registers { keys, written, ..regs },
+            buffer: self.buffer(count as u32, slots)?,
+        };
+        let memory = self.memory(memory_length, chunks)?;
+        let mut console = vec![0; console_length];
+        console[..given].copy_from_slice(self.take(given)?);
         let runs = (0..runs).map(|_| self.run()).collect::<Result<_, _>>()?;
-        Ok(Runs { memory, console, record: Record { regs, buffer }, runs })
+        Ok(Runs { entries: entries as u32, memory, console, record, runs })
     }
 
-    fn registers(&mut self) -> Result<Registers, String> {
-        Ok(Registers {
-            a: self.get32()?,
-            b: self.get32()?,
-            c: self.get32()?,
-            sp: self.get32()?,
-            usp: self.get32()?,
-            ksp: self.get32()?,
-            pc: self.get32()?,
-            ivec: self.get32()?,
-            pdir: self.get32()?,
-            vadr: self.get32()?,
-            timer: self.get32()?,
-            timeout: self.get32()?,
-            kbchar: self.get32()?,
-            user: self.flag(1)?,
-            iena: self.flag(1)?,
-            paging: self.flag(1)?,
-            waiting: self.flag(1)?,
-            stop: Stop::ALL[self.length(3)?],
-            count: self.get64()?,
-            keys: self.get64()?,
-            written: self.get64()?,
-        })
-    }
-
-    fn buffer(&mut self, count: u32, given: usize) -> Result<Buffer, String> {
+    fn buffer(&mut self, count: u32, given: usize) -> Result<Buffer, Broken> {
         let mut buffer = Buffer { count, ..Buffer::default() };
         for slot in &mut buffer.slots[..given] {
-            *slot = Entry {
-                page: self.get32()?,
-                frame: self.get32()?,
-                user: self.flag(4)?,
-                write: self.flag(4)?,
-                origin: None,
-            };
+            let [page, frame, user, write] =
+                [self.get32()?, self.get32()?, self.get32()?, self.get32()?];
+            well_formed(user <= 1 && write <= 1)?;
+            *slot = Entry { page, frame, user: user == 1, write: write == 1, origin: None };
         }
         Ok(buffer)
     }
 
-    fn run(&mut self) -> Result<RunInput, String> {
-        let keys = (0..self.length(MAX_KEYS)?)
+    /// Chunks rise and don't overlap.
+    fn memory(&mut self, length: usize, chunks: usize) -> Result<Vec<u8>, Broken> {
+        let mut memory = vec![0; length];
+        let mut free = 0;
+        for _ in 0..chunks {
+            let [start, length] = self.sizes()?;
+            well_formed(start >= free)?;
+            free = start + length;
+            let place = memory.get_mut(start..free).ok_or(Broken::Malformed)?;
+            place.copy_from_slice(self.take(length)?);
+        }
+        Ok(memory)
+    }
+
+    fn run(&mut self) -> Result<RunInput, Broken> {
+        let keys = self.size()?;
+        within(keys <= MAX_KEYS)?;
+        let keys = (0..keys)
             .map(|_| Ok(Key { step: self.get64()?, byte: self.number(1)? as u8 }))
-            .collect::<Result<_, String>>()?;
+            .collect::<Result<_, _>>()?;
         Ok(RunInput { keys, budget: self.get64()? })
     }
 }

@@ -1,8 +1,9 @@
 //! Writing a case in the format of FORMAT.md.
 
+use super::numbers::numbers;
 use super::{Case, Load, RunInput, Runs, KIND_LOAD, KIND_RUNS};
 use super::{MAX_CASE, MAX_CONSOLE, MAX_KEYS, MAX_MEMORY, MAX_RUNS};
-use crate::types::{Buffer, Entry, Registers};
+use crate::types::{Buffer, Entry};
 
 /// Zero bytes that part two chunks; fewer are cheaper to write out.
 const GAP: usize = 8;
@@ -44,16 +45,22 @@ fn put_load(bytes: &mut Vec<u8>, load: &Load) {
 fn put_runs(bytes: &mut Vec<u8>, case: &Runs) {
     let chunks = chunks(&case.memory);
     let console = &case.console[..used(&case.console)];
-    let slots = slots_to_give(&case.record.buffer);
+    let (regs, buffer) = (&case.record.regs, &case.record.buffer);
+    let slots = slots_to_give(buffer);
     put32(bytes, KIND_RUNS);
+    put32(bytes, case.entries);
     put_length(bytes, case.memory.len(), MAX_MEMORY);
     put_length(bytes, case.console.len(), MAX_CONSOLE);
-    put_registers(bytes, &case.record.regs);
-    put32(bytes, case.record.buffer.count);
+    put32(bytes, buffer.count);
     put32(bytes, slots.len() as u32);
     put32(bytes, chunks.len() as u32);
     put32(bytes, console.len() as u32);
     put_length(bytes, case.runs.len(), MAX_RUNS);
+    put64(bytes, regs.keys);
+    put64(bytes, regs.written);
+    let numbers = numbers(regs);
+    put32(bytes, numbers.len() as u32);
+    numbers.iter().for_each(|number| put64(bytes, *number));
     for entry in slots {
         for field in [entry.page, entry.frame, u32::from(entry.user), u32::from(entry.write)] {
             put32(bytes, field);
@@ -68,32 +75,6 @@ fn put_runs(bytes: &mut Vec<u8>, case: &Runs) {
     for run in &case.runs {
         put_run(bytes, run);
     }
-}
-
-fn put_registers(bytes: &mut Vec<u8>, regs: &Registers) {
-    let numbers = [
-        regs.a,
-        regs.b,
-        regs.c,
-        regs.sp,
-        regs.usp,
-        regs.ksp,
-        regs.pc,
-        regs.ivec,
-        regs.pdir,
-        regs.vadr,
-        regs.timer,
-        regs.timeout,
-        regs.kbchar,
-    ];
-    for number in numbers {
-        put32(bytes, number);
-    }
-    bytes.extend([regs.user, regs.iena, regs.paging, regs.waiting].map(u8::from));
-    put32(bytes, regs.stop as u32);
-    put64(bytes, regs.count);
-    put64(bytes, regs.keys);
-    put64(bytes, regs.written);
 }
 
 fn put_run(bytes: &mut Vec<u8>, run: &RunInput) {

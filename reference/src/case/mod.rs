@@ -2,12 +2,13 @@
 
 pub mod decode;
 pub mod encode;
+pub mod numbers;
 
 use crate::types::{Entry, Key, Record, Registers};
 use crate::words;
 
 /// Bounds a reader with fixed buffers may rely on.
-pub const MAX_MEMORY: usize = 65_536;
+pub const MAX_MEMORY: usize = 2_097_152;
 pub const MAX_CONSOLE: usize = 4_096;
 pub const MAX_KEYS: usize = 64;
 pub const MAX_RUNS: usize = 64;
@@ -17,6 +18,9 @@ pub const MAX_CASE: usize = 131_072;
 pub const KIND_RUNS: u32 = 1;
 pub const KIND_LOAD: u32 = 2;
 
+/// All three of the library's entries: 1 `run`, 2 `run_packed`, 4 `single_step`.
+pub const ALL_ENTRIES: u32 = 7;
+
 #[derive(Clone, Debug, Default, PartialEq, Eq)]
 pub struct RunInput {
     pub keys: Vec<Key>,
@@ -24,8 +28,10 @@ pub struct RunInput {
 }
 
 /// A starting memory, console and record, and a list of runs handed on.
-#[derive(Clone, Debug, Default, PartialEq, Eq)]
+#[derive(Clone, Debug, PartialEq, Eq)]
 pub struct Runs {
+    /// The entries that make the runs, each from this start: a sum of 1, 2, 4.
+    pub entries: u32,
     pub memory: Vec<u8>,
     pub console: Vec<u8>,
     pub record: Record,
@@ -50,7 +56,8 @@ pub enum Case {
 impl Runs {
     pub fn new(memory_length: usize, regs: Registers) -> Runs {
         let record = Record { regs, ..Record::default() };
-        Runs { memory: vec![0; memory_length], record, ..Runs::default() }
+        let (memory, console) = (vec![0; memory_length], Vec::new());
+        Runs { entries: ALL_ENTRIES, memory, console, record, runs: Vec::new() }
     }
 
     /// Puts words into memory from `at` on.

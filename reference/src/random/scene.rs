@@ -54,12 +54,11 @@ fn runs_case(rng: &mut Rng, number: u64, purpose: Purpose) -> Runs {
     put_program(rng, &space, &mut memory, number);
     scatter(rng, &mut memory);
     let regs = registers(rng, &space, paging);
-    let mut case = Runs { memory, ..Runs::default() };
+    let mut case = Runs { memory, ..Runs::new(0, regs) };
     if purpose == Purpose::Any && rng.percent(25) {
         case.record.buffer = stale_buffer(rng, &space);
     }
     case.console = vec![0; rng.pick(&[0, 1, 3, 16, 200])];
-    case.record.regs = regs;
     put_console_and_keys(rng, &mut case);
     case
 }
