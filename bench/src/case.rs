@@ -8,47 +8,81 @@ pub struct Run {
     pub budget: u64,
 }
 
-/// One machine, and runs that are handed on.
+/// One machine, and runs that are handed on, made by some of the library's entries.
 pub struct Case {
+    pub entries: u32,
     pub machine: Machine,
     pub runs: Vec<Run>,
 }
 
+/// The library's entries, by their numbers in a case.
+pub const RUN_PACKED: u32 = 2;
+pub const SINGLE_STEP: u32 = 4;
+const ALL: [u32; 3] = [1, RUN_PACKED, SINGLE_STEP];
+
+/// The record's numbers in the order of the format. A further field is appended here, and to `Machine`.
+macro_rules! numbers {
+    ($($name:ident: $type:ident,)*) => {
+        const NUMBERS: usize = [$(stringify!($name),)*].len();
+
+        fn numbers(m: &Machine) -> [u64; NUMBERS] {
+            [$(m.$name as u64,)*]
+        }
+
+        fn set_numbers(m: &mut Machine, numbers: [u64; NUMBERS]) {
+            let [$($name,)*] = numbers;
+            $(m.$name = numbers!(@$type $name);)*
+        }
+    };
+    (@flag $name:ident) => { $name != 0 };
+    (@word $name:ident) => { $name as u32 };
+    (@long $name:ident) => { $name };
+}
+
+numbers! {
+    a: word, b: word, c: word, sp: word, usp: word, ksp: word, pc: word, ivec: word, pdir: word, vadr: word, timer: word, timeout: word, kbchar: word,
+    user: flag, iena: flag, paging: flag, waiting: flag, stop: word, count: long,
+}
+
+/// Memory is written in chunks of this many bytes, but for those that are all zero.
+const CHUNK: usize = 4096;
+
 /// The bytes of a case that starts with an empty page buffer and an empty console.
 pub fn encode(case: &Case) -> Vec<u8> {
     let machine = &case.machine;
+    let chunks = machine.memory.chunks(CHUNK).enumerate();
+    let chunks: Vec<_> = chunks.filter(|(_, bytes)| bytes.iter().any(|byte| *byte != 0)).collect();
     let mut body = Vec::new();
-    let mut word = |value: u32| body.extend_from_slice(&value.to_le_bytes());
-    word(1);
-    word(machine.memory.len() as u32);
-    word(machine.console.len() as u32);
-    registers(machine).into_iter().for_each(&mut word);
-    let flags = [machine.user, machine.iena, machine.paging, machine.waiting];
-    word(u32::from_le_bytes(flags.map(u8::from)));
-    word(machine.stop);
-    for value in [machine.count, machine.taken as u64, machine.written as u64] {
-        word(value as u32);
-        word((value >> 32) as u32);
+    let lent = [machine.memory.len() as u32, machine.console.len() as u32];
+    // no entries, no slots, no console bytes
+    let counts = [0, 0, chunks.len() as u32, 0, case.runs.len() as u32];
+    words(&mut body, &[&[1, case.entries], &lent[..], &counts].concat());
+    longs(&mut body, &[machine.taken as u64, machine.written as u64]);
+    words(&mut body, &[NUMBERS as u32]);
+    longs(&mut body, &numbers(machine));
+    for (at, bytes) in chunks {
+        words(&mut body, &[(at * CHUNK) as u32, bytes.len() as u32]);
+        body.extend_from_slice(bytes);
     }
-    // no entries, no slots, one chunk with all of memory, no console bytes
-    let counts = [0, 0, 1, 0, case.runs.len() as u32];
-    counts.into_iter().chain([0, machine.memory.len() as u32]).for_each(word);
-    body.extend_from_slice(&machine.memory);
     for run in &case.runs {
-        body.extend_from_slice(&(run.keys.len() as u32).to_le_bytes());
+        words(&mut body, &[run.keys.len() as u32]);
         for key in &run.keys {
-            body.extend_from_slice(&key.step.to_le_bytes());
+            longs(&mut body, &[key.step]);
             body.push(key.byte);
         }
-        body.extend_from_slice(&run.budget.to_le_bytes());
+        longs(&mut body, &[run.budget]);
     }
     let mut out = ((body.len() + 4) as u32).to_le_bytes().to_vec();
     out.extend_from_slice(&body);
     out
 }
 
-fn registers(m: &Machine) -> [u32; 13] {
-    [m.a, m.b, m.c, m.sp, m.usp, m.ksp, m.pc, m.ivec, m.pdir, m.vadr, m.timer, m.timeout, m.kbchar]
+fn words(bytes: &mut Vec<u8>, list: &[u32]) {
+    bytes.extend(list.iter().flat_map(|word| word.to_le_bytes()));
+}
+
+fn longs(bytes: &mut Vec<u8>, list: &[u64]) {
+    bytes.extend(list.iter().flat_map(|long| long.to_le_bytes()));
 }
 
 /// Bytes read from the front.
@@ -73,18 +107,15 @@ impl<'a> Reader<'a> {
 
 /// A case of runs, after its kind.
 fn decode(from: &mut Reader) -> Case {
+    let [entries] = from.words();
     let [memory, console] = from.sizes().map(|size| vec![0; size]);
-    let zero = Machine::zero(memory, console);
-    let [a, b, c, sp, usp, ksp, pc, ivec, pdir, vadr, timer, timeout, kbchar] = from.words();
-    let zero =
-        Machine { a, b, c, sp, usp, ksp, pc, ivec, pdir, vadr, timer, timeout, kbchar, ..zero };
-    let [user, iena, paging, waiting] = [0, 1, 2, 3].map(|at| from.0[at] != 0);
-    let [_, stop] = from.words();
-    let [count, taken, written] = from.longs();
-    let [taken, written] = [taken, written].map(|number| number as usize);
-    let mut m = Machine { user, iena, paging, waiting, stop, count, taken, written, ..zero };
+    let mut m = Machine::zero(memory, console);
     let [held, slots, chunks, given, runs] = from.sizes();
     m.held = held;
+    [m.taken, m.written] = from.longs().map(|number| number as usize);
+    let [length] = from.sizes();
+    assert_eq!(length, NUMBERS, "numbers of the record");
+    set_numbers(&mut m, from.longs());
     for entry in &mut m.entries[..slots] {
         let [page, frame, user, write] = from.words();
         *entry = Entry { page, frame, user: user != 0, write: write != 0 };
@@ -94,7 +125,7 @@ fn decode(from: &mut Reader) -> Case {
         m.memory[at..at + length].copy_from_slice(from.bytes(length));
     }
     m.console[..given].copy_from_slice(from.bytes(given));
-    Case { machine: m, runs: (0..runs).map(|_| decode_run(from)).collect() }
+    Case { entries, machine: m, runs: (0..runs).map(|_| decode_run(from)).collect() }
 }
 
 fn decode_run(from: &mut Reader) -> Run {
@@ -108,19 +139,20 @@ fn decode_run(from: &mut Reader) -> Run {
     Run { keys, budget }
 }
 
-/// The lines of all cases of a file; with `by_step` each run is made in calls of budget 1.
-pub fn result_lines(bytes: &[u8], by_step: bool) -> String {
+/// The lines of all cases of a good stream.
+pub fn result_lines(bytes: &[u8]) -> String {
     let mut rest = Reader(bytes);
     let mut out = String::new();
     for number in 0.. {
         let [length] = if rest.0.is_empty() { [0] } else { rest.sizes() };
         if length == 0 {
+            out.push_str(&format!("end {number}\n"));
             break;
         }
         let mut from = Reader(rest.bytes(length - 4));
         let [kind] = from.words();
         if kind == 1 {
-            run_lines(number, decode(&mut from), by_step, &mut out);
+            run_lines(number, &decode(&mut from), &mut out);
         } else {
             let [size, fill, length] = from.sizes();
             let (answer, machine) = load(from.bytes(length), vec![fill as u8; size]);
@@ -130,47 +162,53 @@ pub fn result_lines(bytes: &[u8], by_step: bool) -> String {
     out
 }
 
-fn run_lines(number: usize, case: Case, by_step: bool, out: &mut String) {
-    let mut machine = case.machine;
-    for (at, run) in case.runs.iter().enumerate() {
-        let outcome = if by_step {
-            calls_of_one(&mut machine, run)
-        } else {
-            machine.run(&run.keys, run.budget)
-        };
-        out.push_str(&line([number, at], outcome, &machine));
+/// The runs of a case, made by each of its entries from the same start.
+fn run_lines(number: usize, case: &Case, out: &mut String) {
+    for entry in ALL.iter().filter(|entry| case.entries & **entry != 0) {
+        let mut machine = case.machine.clone();
+        for (at, run) in case.runs.iter().enumerate() {
+            let outcome = if *entry == SINGLE_STEP {
+                calls_of_one(&mut machine, run)
+            } else {
+                machine.run(&run.keys, run.budget)
+            };
+            out.push_str(&line([number, at], outcome, &machine));
+        }
     }
 }
 
-/// Calls of budget 1, as many as the budget has steps, to the first that makes none.
+/// Calls of budget 1, as many as the budget has steps, to the first that makes none; what document 01 makes different is not divided.
 fn calls_of_one(machine: &mut Machine, run: &Run) -> Outcome {
-    let mut all = Outcome { answer: 0, steps: 0 };
-    for _ in 0..run.budget {
-        let one = machine.run(&run.keys, 1);
-        all = Outcome { answer: one.answer, steps: all.steps + one.steps };
-        if one.steps == 0 {
-            break;
+    let mut left = run.budget;
+    let mut steps = 0;
+    loop {
+        let whole = left == 0 || left > 1_000_000 || machine.count >= (1 << 63) - 1;
+        let budget = if whole { left } else { 1 };
+        let one = machine.run(&run.keys, budget);
+        steps += one.steps;
+        left -= budget;
+        if left == 0 || one.steps == 0 {
+            return Outcome { steps, ..one };
         }
     }
-    all
 }
 
 fn line(place: [usize; 2], outcome: Outcome, m: &Machine) -> String {
-    let mut numbers: Vec<u64> = place.map(|number| number as u64).to_vec();
-    numbers.extend([outcome.answer as u64, outcome.steps]);
-    numbers.extend(registers(m).map(u64::from));
-    numbers.extend([m.user, m.iena, m.paging, m.waiting].map(u64::from));
-    numbers.extend([m.stop as u64, m.count, m.taken as u64, m.written as u64, m.held as u64]);
+    let mut list: Vec<u64> = place.map(|number| number as u64).to_vec();
+    list.extend([outcome.answer as u64, outcome.steps, m.taken as u64, m.written as u64]);
+    list.push(NUMBERS as u64);
+    list.extend(numbers(m));
+    list.push(m.held as u64);
     for entry in &m.entries[..m.held.min(64)] {
         let rights = [entry.user, entry.write].map(u64::from);
-        numbers.extend([entry.page as u64, entry.frame as u64]);
-        numbers.extend(rights);
+        list.extend([entry.page as u64, entry.frame as u64]);
+        list.extend(rights);
     }
     for bytes in [&m.memory, &m.console] {
-        numbers.push(digest(bytes, 1000003, 4294967311));
-        numbers.push(digest(bytes, 998244353, 4294967357));
+        list.push(digest(bytes, 1000003, 4294967311));
+        list.push(digest(bytes, 998244353, 4294967357));
     }
-    let words: Vec<String> = numbers.iter().map(u64::to_string).collect();
+    let words: Vec<String> = list.iter().map(u64::to_string).collect();
     words.join(" ") + "\n"
 }
 

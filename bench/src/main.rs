@@ -1,6 +1,6 @@
-//! `bench VECTORS BY_STEP PLAIN`: runs the emulator's programs and the plain one on the workloads, in turn, fails where their results differ, and prints ns
-//! and instructions a step with their ratios.
-//! `bench --instructions VECTORS BY_STEP`: of the emulator's programs alone, a workload a line: its name, instructions a step, the result.
+//! `bench VECTORS PLAIN`: runs the emulator's program and the plain one on the workloads, in turn, fails where their results differ, and prints ns and
+//! instructions a step with their ratios.
+//! `bench --instructions VECTORS`: of the emulator's program alone, a workload a line: its name, instructions a step, the result.
 
 use bench::measure::{held_after_whole_runs, instructions, lines, nanoseconds, Program};
 use bench::measure::{COUNTED, LONG, RUNS, SHORT};
@@ -9,27 +9,9 @@ use std::error::Error;
 
 const ROUNDS: usize = 7;
 
-/// The emulator's two programs and the plain one.
 struct Programs {
-    whole: Program,
-    by_step: Program,
+    emulator: Program,
     plain: Program,
-}
-
-impl Programs {
-    fn emulator(&self, work: &Workload) -> &Program {
-        if work.by_step {
-            &self.by_step
-        } else {
-            &self.whole
-        }
-    }
-
-    fn plain(&self, work: &Workload) -> Program {
-        let mut plain = self.plain.clone();
-        plain.0.extend(work.by_step.then(|| "--by-step".to_string()));
-        plain
-    }
 }
 
 /// What one workload costs a step, the emulator first.
@@ -40,17 +22,15 @@ struct Cost {
 
 fn main() -> Result<(), Box<dyn Error>> {
     let words: Vec<String> = std::env::args().skip(1).collect();
-    let program = |at: usize| Program(vec![words[at].clone()]);
-    match words.len() {
-        3 if words[0] == "--instructions" => {
-            let plain = Program(Vec::new());
-            print_instructions(&Programs { whole: program(1), by_step: program(2), plain })
+    match &words[..] {
+        [option, vectors] if option == "--instructions" => {
+            print_instructions(&Program(vectors.clone()))
         }
-        3 => compare(&Programs { whole: program(0), by_step: program(1), plain: program(2) }),
-        _ => {
-            Err("usage: bench VECTORS BY_STEP PLAIN, or bench --instructions VECTORS BY_STEP"
-                .into())
+        [vectors, plain] => {
+            let [emulator, plain] = [vectors, plain].map(|path| Program(path.clone()));
+            compare(&Programs { emulator, plain })
         }
+        _ => Err("usage: bench VECTORS PLAIN, or bench --instructions VECTORS".into()),
     }
 }
 
@@ -88,8 +68,8 @@ fn print_how() {
     println!("    empty. The runs of one process are handed on, with the page buffer as the run before left it. The processor's caches are not cleared.");
     println!("ns a step: time on the processor, the least of {ROUNDS} rounds, both programs in turn; {RUNS} runs of {LONG} steps less {RUNS} runs of {SHORT}.");
     println!("instructions a step: callgrind, a run of {COUNTED} steps less a run of {SHORT}.");
-    println!("calls of budget 1: {LONG} of them; what a call itself costs is in it. The emulator's record goes in and comes out by value, document 01's");
-    println!("    refusals are tried, and the page buffer is packed into an array and back. The plain interpreter tries the refusals; its record stays.");
+    println!("calls of budget 1: {LONG} of them; what a call itself costs is in it. The emulator's single_step rewrites the caller's record: it takes it by");
+    println!("    value and back, tries document 01's refusals and unpacks and packs the page buffer. The plain interpreter tries the refusals; its record stays.");
 }
 
 /// Compares the results of workloads, measures them in turn, and prints a line for each.
@@ -99,14 +79,14 @@ fn measured(programs: &Programs, works: &[&Workload]) -> Result<Vec<Cost>, Box<d
     let mut least = vec![[f64::INFINITY; 2]; works.len()];
     for _ in 0..ROUNDS {
         for (work, least) in works.iter().zip(&mut least) {
-            least[0] = least[0].min(nanoseconds(programs.emulator(work), work)?);
-            least[1] = least[1].min(nanoseconds(&programs.plain(work), work)?);
+            least[0] = least[0].min(nanoseconds(&programs.emulator, work)?);
+            least[1] = least[1].min(nanoseconds(&programs.plain, work)?);
         }
     }
     let mut costs = Vec::new();
     for ((work, held), nanoseconds) in works.iter().zip(held).zip(least) {
-        let (emulator, plain) = (programs.emulator(work), &programs.plain(work));
-        let counts = [instructions(emulator, work)?.0, instructions(plain, work)?.0];
+        let counts =
+            [instructions(&programs.emulator, work)?.0, instructions(&programs.plain, work)?.0];
         print!("{:<34}", work.name);
         for [emulator, plain] in [nanoseconds, counts] {
             print!("{emulator:>10.2}{plain:>8.2}{:>7.2}  ", emulator / plain);
@@ -119,8 +99,8 @@ fn measured(programs: &Programs, works: &[&Workload]) -> Result<Vec<Cost>, Box<d
 
 /// The entries held after a workload; fails where the two programs' results differ or a run is not made whole.
 fn held_if_equal(programs: &Programs, work: &Workload) -> Result<u64, Box<dyn Error>> {
-    let result = lines(programs.emulator(work), work)?;
-    if result != lines(&programs.plain(work), work)? {
+    let result = lines(&programs.emulator, work)?;
+    if result != lines(&programs.plain, work)? {
         return Err(format!("{}: the results differ", work.name).into());
     }
     held_after_whole_runs(&result)
@@ -154,11 +134,11 @@ fn machine() -> Result<String, Box<dyn Error>> {
     Ok(format!("{}, {cores} cores", model.map_or("unknown processor", |(_, name)| name)))
 }
 
-fn print_instructions(programs: &Programs) -> Result<(), Box<dyn Error>> {
+fn print_instructions(emulator: &Program) -> Result<(), Box<dyn Error>> {
     let growths = growths().into_iter().flat_map(|growth| [growth.few, growth.many]);
     for work in all().into_iter().chain(growths) {
-        let (count, line) = instructions(programs.emulator(&work), &work)?;
-        print!("{}\t{count:.3}\t{line}", work.name);
+        let (count, line) = instructions(emulator, &work)?;
+        println!("{}\t{count:.3}\t{line}", work.name);
     }
     Ok(())
 }

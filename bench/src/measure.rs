@@ -15,17 +15,8 @@ pub const RUNS: usize = 20;
 /// Budget of the run whose instructions are counted.
 pub const COUNTED: u64 = 400_000;
 
-/// A program with its arguments.
-#[derive(Clone)]
-pub struct Program(pub Vec<String>);
-
-impl Program {
-    fn command(&self) -> Command {
-        let mut command = Command::new(&self.0[0]);
-        command.args(&self.0[1..]);
-        command
-    }
-}
+/// A program that reads cases and prints their lines.
+pub struct Program(pub String);
 
 fn runs(work: &Workload) -> usize {
     if work.by_step {
@@ -38,19 +29,20 @@ fn runs(work: &Workload) -> usize {
 /// The lines of the long runs.
 pub fn lines(program: &Program, work: &Workload) -> Result<String, Box<dyn Error>> {
     let bytes = encode(&case(work, runs(work), LONG));
-    Ok(String::from_utf8_lossy(&run(program.command(), &bytes)?.output).into_owned())
+    Ok(String::from_utf8_lossy(&run(Command::new(&program.0), &bytes)?.output).into_owned())
 }
 
 /// Whether every run was accepted and made all its steps, and the entries held after the last.
 pub fn held_after_whole_runs(lines: &str) -> Option<u64> {
     let mut held = None;
-    for line in lines.lines() {
+    for line in lines.strip_suffix("end 1\n")?.lines() {
         let numbers: Vec<u64> =
             line.split(' ').map(|word| word.parse().ok()).collect::<Option<_>>()?;
-        if numbers[2] != 0 || numbers[3] != LONG {
+        let [_, _, answer, steps, _, _, count, ..] = numbers[..] else { return None };
+        if answer != 0 || steps != LONG {
             return None;
         }
-        held = numbers.get(25).copied();
+        held = numbers.get(7 + count as usize).copied();
     }
     held
 }
@@ -58,7 +50,7 @@ pub fn held_after_whole_runs(lines: &str) -> Option<u64> {
 /// Nanoseconds on the processor a step: the long runs less the short ones, each in a process of its own.
 pub fn nanoseconds(program: &Program, work: &Workload) -> Result<f64, Box<dyn Error>> {
     let [less, more] = [SHORT, LONG]
-        .map(|budget| run(program.command(), &encode(&case(work, runs(work), budget))));
+        .map(|budget| run(Command::new(&program.0), &encode(&case(work, runs(work), budget))));
     let steps = (LONG - SHORT) * runs(work) as u64;
     Ok((more?.nanoseconds - less?.nanoseconds) / steps as f64)
 }
@@ -67,7 +59,8 @@ pub fn nanoseconds(program: &Program, work: &Workload) -> Result<f64, Box<dyn Er
 pub fn instructions(program: &Program, work: &Workload) -> Result<(f64, String), Box<dyn Error>> {
     let [less, more] =
         [SHORT, COUNTED].map(|budget| counted(program, &encode(&case(work, 1, budget))));
-    let ((less, _), (more, line)) = (less?, more?);
+    let ((less, _), (more, lines)) = (less?, more?);
+    let line = lines.lines().next().ok_or("no line")?.to_string();
     Ok(((more - less) / (COUNTED - SHORT) as f64, line))
 }
 
@@ -75,7 +68,7 @@ fn counted(program: &Program, input: &[u8]) -> Result<(f64, String), Box<dyn Err
     let file = std::env::temp_dir().join(format!("bench-{}.callgrind", std::process::id()));
     let mut command = Command::new("valgrind");
     command.arg("--tool=callgrind").arg(format!("--callgrind-out-file={}", file.display()));
-    command.args(&program.0).stderr(Stdio::null());
+    command.arg(&program.0).stderr(Stdio::null());
     let line = String::from_utf8_lossy(&run(command, input)?.output).into_owned();
     let text = fs::read_to_string(&file)?;
     fs::remove_file(file)?;

@@ -1,6 +1,6 @@
 //! The workloads: a program, and the machine that it starts in.
 
-use crate::case::{Case, Run};
+use crate::case::{Case, Run, RUN_PACKED, SINGLE_STEP};
 use crate::opcode::{op, RTI};
 use crate::plain::Machine;
 use crate::program::{
@@ -24,13 +24,15 @@ pub struct Growth {
     pub many: Workload,
 }
 
-const LARGEST: usize = 65536;
+const USUAL: usize = 65536;
+/// As much as a case may lend.
+const LARGEST: usize = 1 << 21;
 const DIRECTORY: u32 = 0x1000;
 const TABLE: u32 = 0x2000;
 pub const HANDLER: u32 = 0x800;
 
 fn unpaged(name: &'static str, program: Vec<u32>) -> Workload {
-    Workload { name, program, memory: LARGEST, paged: false, timeout: 0, by_step: false }
+    Workload { name, program, memory: USUAL, paged: false, timeout: 0, by_step: false }
 }
 
 fn paged(name: &'static str, program: Vec<u32>) -> Workload {
@@ -57,13 +59,13 @@ pub fn all() -> Vec<Workload> {
 }
 
 pub fn growths() -> [Growth; 2] {
-    let small = Workload { memory: 4096, ..unpaged("M = 4 KiB", repeated(transfers())) };
+    let of_size = |name, memory| Workload { memory, ..unpaged(name, repeated(transfers())) };
     let filled = [touched(58), repeated(transfers())].concat();
     [
         Growth {
             what: "the size of memory",
-            few: small,
-            many: unpaged("M = 64 KiB", repeated(transfers())),
+            few: of_size("M = 4 KiB", 4096),
+            many: of_size("M = 2 MiB", LARGEST),
         },
         Growth {
             what: "the entries held",
@@ -76,7 +78,8 @@ pub fn growths() -> [Growth; 2] {
 /// The case of a workload: so many runs of one budget.
 pub fn case(workload: &Workload, runs: usize, budget: u64) -> Case {
     let runs = (0..runs).map(|_| Run { keys: Vec::new(), budget }).collect();
-    Case { machine: machine(workload), runs }
+    let entries = if workload.by_step { SINGLE_STEP } else { RUN_PACKED };
+    Case { entries, machine: machine(workload), runs }
 }
 
 fn machine(workload: &Workload) -> Machine {

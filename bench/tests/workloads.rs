@@ -93,6 +93,6 @@ fn seventy_pages_empty_the_buffer_in_every_round() {
 fn growths_differ_in_what_they_say() {
     let [memory, entries] =
         growths().map(|growth| [growth.few, growth.many].map(|work| seen(&work, 1000).machine));
-    assert_eq!(memory.map(|machine| machine.memory.len()), [4096, 65536]);
+    assert_eq!(memory.map(|machine| machine.memory.len()), [4096, 1 << 21]);
     assert_eq!(entries.map(|machine| machine.held), [2, 60]);
 }

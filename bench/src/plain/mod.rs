@@ -29,6 +29,7 @@ pub struct Key {
     pub byte: u8,
 }
 
+#[derive(Clone)]
 pub struct Machine {
     pub a: u32,
     pub b: u32,
