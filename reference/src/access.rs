@@ -12,23 +12,34 @@ impl Machine {
     /// Translates in the current mode. `size` is 1, 2 or 4; the physical
     /// address comes back with its low bits dropped to that size.
     pub fn reach(&mut self, address: u32, access: Access, size: u32) -> Result<u32, Trap> {
-        match self.translate(address, access, self.regs.user) {
+        let user = self.regs.user && !self.makes(Mistake::AsKernel(self.opcode));
+        match self.translate(
+            address,
+            access,
+            if access == Access::Fetch { self.regs.user } else { user },
+        ) {
             Ok(physical) => Ok(physical & !(size - 1)),
             Err(trap) => {
                 let dropped = address & !(size - 1);
-                self.regs.vadr = self.pick(Mistake::VadrLowBitsDropped, dropped, address);
+                let misread = self.makes(Mistake::VadrLowBitsDropped)
+                    || self.makes(Mistake::VadrDropped(self.opcode));
+                self.regs.vadr = if misread { dropped } else { address };
                 Err(trap)
             }
         }
     }
 
     pub fn read(&mut self, address: u32, size: u32) -> Result<u32, Trap> {
-        let physical = self.reach(address, Access::Read, size)?;
+        let read = Access::Read;
+        let access = self.pick(Mistake::ReadsAsWrite(self.opcode), Access::Write, read);
+        let physical = self.reach(address, access, size)?;
         Ok(words::get(&self.memory, physical, size))
     }
 
     pub fn write(&mut self, address: u32, size: u32, value: u32) -> Result<(), Trap> {
-        let physical = self.reach(address, Access::Write, size)?;
+        let write = Access::Write;
+        let access = self.pick(Mistake::WritesAsRead(self.opcode), Access::Read, write);
+        let physical = self.reach(address, access, size)?;
         self.store(physical, size, value, Storer::Instruction);
         self.misread_marks(address);
         Ok(())

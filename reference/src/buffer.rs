@@ -35,8 +35,8 @@ impl Machine {
     /// The frame of the page's entry, if that entry is held and serves.
     pub fn hit(&mut self, page: u32, access: Access, user: bool) -> Option<u32> {
         let buffer = self.buffer.as_ref()?;
-        let entry = buffer.slots[buffer.position(page)?];
-        if !entry.serves(access, user) && !self.makes(Mistake::RightsIgnoredOnHit) {
+        let entry = buffer.slots[self.found(buffer, page)?];
+        if !entry.serves(access, user) && !self.misread_rights(&entry, access, user) {
             return None;
         }
         self.coverage.hit(access, user);
@@ -76,6 +76,24 @@ impl Machine {
             self.coverage.emptied[why as usize] += 1;
         }
         buffer.count = 0;
+    }
+
+    /// The place of the page's entry.
+    fn found(&self, buffer: &Buffer, page: u32) -> Option<usize> {
+        if let Some(Mistake::HitDropsBit(bit)) = self.mistake {
+            let alike = |entry: &Entry| (entry.page ^ page) & !(1 << bit) == 0;
+            return buffer.entries().iter().position(alike);
+        }
+        buffer.position(page)
+    }
+
+    /// Planted mistakes only: entries that serve though they lack a right.
+    fn misread_rights(&self, entry: &Entry, access: Access, user: bool) -> bool {
+        let write = access == Access::Write;
+        self.makes(Mistake::RightsIgnoredOnHit)
+            || (self.makes(Mistake::FetchHitIgnoresUser) && access == Access::Fetch)
+            || (self.makes(Mistake::WriteHitIgnoresUser) && write && entry.write)
+            || (self.makes(Mistake::WriteHitIgnoresWrite) && write && (!user || entry.user))
     }
 
     /// Planted mistakes only: what a faulting walk might do to the buffer.

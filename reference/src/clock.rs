@@ -28,7 +28,12 @@ impl Machine {
         // The run was not refused, so keys taken don't exceed the list.
         let Some(key) = keys.get(self.regs.keys as usize) else { return false };
         let count = self.pick(Mistake::KeyByOldCount, self.regs.count - 1, self.regs.count);
-        if key.step > count || (self.makes(Mistake::MaskedKeyWaits) && !self.regs.iena) {
+        let due = match self.mistake {
+            Some(Mistake::KeyDueLowHalf) => key.step as u32 <= count as u32,
+            Some(Mistake::KeyDueSigned) => key.step as i64 <= count as i64,
+            _ => key.step <= count,
+        };
+        if !due || (self.makes(Mistake::MaskedKeyWaits) && !self.regs.iena) {
             return false;
         }
         let byte = u32::from(key.byte);
@@ -44,7 +49,12 @@ impl Machine {
         }
         let wrapped = u64::from(self.regs.timer.wrapping_add(1));
         let next = self.pick(Mistake::TimerWraps, wrapped, u64::from(self.regs.timer) + 1);
-        let out = next > u64::from(self.regs.timeout);
+        let (timer, timeout) = (self.regs.timer, self.regs.timeout);
+        let out = match self.mistake {
+            Some(Mistake::TimerAtTimeoutOnly) => timer == timeout,
+            Some(Mistake::TimerSigned) => i64::from(timer as i32) + 1 > i64::from(timeout as i32),
+            _ => next > u64::from(timeout),
+        };
         self.regs.timer = if out { 0 } else { next as u32 };
         out
     }

@@ -14,6 +14,7 @@ pub mod digest;
 pub mod directed;
 pub mod exec;
 pub mod expect;
+pub mod families;
 pub mod line;
 pub mod line_files;
 pub mod load;

@@ -1,7 +1,7 @@
 //! Loading an executable. Document 01, "The record and the loaded program".
 
 use crate::mistake::Mistake;
-use crate::run::is_bad_memory;
+use crate::run::{is_bad_memory, lowest};
 use crate::types::{Record, NO_KEY};
 use crate::words;
 
@@ -37,37 +37,34 @@ pub fn load_with(memory: &mut [u8], file: &[u8], mistake: Option<Mistake>) -> (u
     (0, record)
 }
 
-/// The lowest number that applies, or 0.
+/// The lowest number that applies, or 0. What a file is too short for is not
+/// judged; its magic, for a planted mistake, is.
 fn load_answer(memory_length: usize, file: &[u8], mistake: Option<Mistake>) -> u32 {
-    if is_bad_memory(memory_length) {
-        return 1;
+    let makes = |other: Mistake| mistake == Some(other);
+    let word = |at: u32| words::get(file, at, 4);
+    let mut refusals = vec![(1, is_bad_memory(memory_length)), (7, file.len() < HEADER)];
+    if file.len() >= 4 {
+        let unjudged =
+            |byte: u8| if makes(Mistake::MagicByte(byte)) { 0xff << (8 * byte) } else { 0 };
+        let mask: u32 = !(0..4).map(unjudged).sum::<u32>();
+        refusals.push((8, (word(0) ^ MAGIC) & mask != 0));
     }
-    if file.len() < HEADER {
-        return 7;
+    if file.len() >= HEADER {
+        let (entry, data_start) = (word(8), word(12));
+        let body = file.len() - HEADER;
+        let counted = body + if makes(Mistake::BssCounts) { word(4) as usize } else { 0 };
+        let signed = makes(Mistake::DataStartSigned) && (data_start as i32) < 0;
+        let uneven = makes(Mistake::LoadAlignsData) && data_start % 4 != 0;
+        let end = if makes(Mistake::EntryWraps) {
+            u64::from(entry.wrapping_add(4))
+        } else {
+            u64::from(entry) + 4
+        };
+        refusals.push((9, body == 0 || counted > memory_length));
+        refusals.push((10, (data_start as usize > body && !signed) || uneven));
+        refusals.push((11, entry % 4 != 0 || end > u64::from(data_start)));
     }
-    if words::get(file, 0, 4) != MAGIC {
-        return 8;
-    }
-    let body = file.len() - HEADER;
-    if body == 0 || body > memory_length {
-        return 9;
-    }
-    let entry = words::get(file, 8, 4);
-    let data_start = words::get(file, 12, 4);
-    if data_start as usize > body {
-        return 10;
-    }
-    if data_start % 4 != 0 && mistake == Some(Mistake::LoadAlignsData) {
-        return 10;
-    }
-    let end = match mistake {
-        Some(Mistake::EntryWraps) => u64::from(entry.wrapping_add(4)),
-        _ => u64::from(entry) + 4,
-    };
-    if entry % 4 != 0 || end > u64::from(data_start) {
-        return 11;
-    }
-    0
+    lowest(&refusals, mistake)
 }
 
 /// An executable's bytes from its header words and body.

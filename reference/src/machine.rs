@@ -16,6 +16,8 @@ pub struct Machine {
     /// The step count at the first store of demand 3's kind.
     pub held_store: Option<u64>,
     pub coverage: Coverage,
+    /// The opcode byte of the step, for planted mistakes.
+    pub opcode: u8,
 }
 
 impl Machine {

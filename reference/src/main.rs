@@ -7,6 +7,7 @@ use reference::case::Case;
 use reference::compare::{compare, Question, Verdict};
 use reference::coverage::Coverage;
 use reference::expect::{expect, play};
+use reference::families::families;
 use reference::line::line;
 use reference::line_files;
 use reference::mistake::Mistake;
@@ -175,16 +176,24 @@ fn print_files(seed: u64, numbers: Range<u64>) -> Done {
 fn print_mutants() -> Done {
     let cases = read_cases()?;
     let judge = Judge::new(&cases);
-    let mut untold = 0;
+    let mut untold = Vec::new();
     for mistake in Mistake::ALL {
-        let telling = judge.telling(*mistake);
-        let first = telling.first().map_or("none".to_string(), |number| number.to_string());
-        println!("told by {:>4}, first by {first:>4}: {}", telling.len(), mistake.text());
-        untold += usize::from(telling.is_empty());
+        let telling = judge.telling(*mistake, 4);
+        println!("told by {telling:?}: {}", mistake.text());
+        untold.extend(telling.is_empty().then_some(*mistake));
     }
-    println!("{} mistakes, {untold} of them not told apart", Mistake::ALL.len());
-    if untold > 0 {
-        return Err("some mistakes are not told apart".to_string());
+    let mut count = Mistake::ALL.len();
+    for family in families() {
+        let of = |mistake: &Mistake| judge.telling(*mistake, 1).is_empty();
+        let left: Vec<Mistake> = family.members.iter().copied().filter(of).collect();
+        let members = family.members.len();
+        println!("told {:>5} of {members:>5}: {}", members - left.len(), family.text);
+        count += members;
+        untold.extend(left);
     }
-    Ok(())
+    println!("{count} mistakes, {} of them not told apart", untold.len());
+    if untold.is_empty() {
+        return Ok(());
+    }
+    Err(format!("not told apart: {untold:?}"))
 }

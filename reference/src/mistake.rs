@@ -3,16 +3,17 @@
 //! command and the tests plant them to show that the cases tell them apart.
 
 macro_rules! mistakes {
-    ($($name:ident: $text:literal,)*) => {
+    ($($name:ident: $text:literal,)*; $($family:ident($($of:ty),*),)*) => {
         #[derive(Clone, Copy, Debug, PartialEq, Eq)]
-        pub enum Mistake { $($name,)* }
+        pub enum Mistake { $($name,)* $($family($($of),*),)* }
 
         impl Mistake {
+            /// Those that stand alone; `families.rs` has the others.
             pub const ALL: &'static [Mistake] = &[$(Mistake::$name,)*];
 
             /// What the planted machine does instead of the rule.
             pub fn text(self) -> &'static str {
-                match self { $(Mistake::$name => $text,)* }
+                match self { $(Mistake::$name => $text,)* _ => "" }
             }
         }
     };
@@ -43,6 +44,12 @@ mistakes! {
     FrameSlotBySlot: "a frame's first slot is stored before the second is translated",
     StopForgetsVadr: "a stop with 2 restores vadr too",
     HaltPcStays: "HALT leaves pc on itself",
+    SlotsCodeFirst: "a frame's code slot is translated before the pc's",
+    SlotsByMode: "frame slots are translated in the trapped program's mode",
+    PrivilegeLast: "RTI and PDIR reach memory before privilege is asked",
+    UspKept: "delivery from user mode leaves usp",
+    KernelSetsUsp: "delivery from kernel mode sets usp and takes ksp",
+    IenaKept: "delivery leaves iena",
     // The clock.
     TimerOverKey: "a timer event wins over a key",
     TimeRestartsTimer: "TIME sets timer to 0",
@@ -52,6 +59,11 @@ mistakes! {
     MaskedKeyWaits: "no key is taken while iena = 0",
     TimerWraps: "timer + 1 wraps",
     IdleAlwaysWaits: "IDLE waits though iena = 0",
+    KeyDueLowHalf: "a key is due by the low half of its step number",
+    KeyDueSigned: "a key's step number is signed",
+    TimerAtTimeoutOnly: "the timer runs out only at timeout exactly",
+    TimerSigned: "timer and timeout are signed",
+    CycLow31: "CYC drops bit 31",
     // Addresses.
     BlockTranslatesFirst: "MCPY, MCMP translate a before b's byte is read",
     MarksAfterStore: "a walk's marks come after the store",
@@ -70,6 +82,20 @@ mistakes! {
     OldestEvicted: "a new page when 64 are held drops only the oldest",
     RightsIgnoredOnHit: "an entry serves whatever its rights",
     BuffersUnpaged: "accesses with paging off are buffered too",
+    PresentIfNotZero: "a word is present if it is not 0",
+    WriteByTableOnly: "a write asks for W in the table word only",
+    WriteByDirectoryOnly: "a write asks for W in the directory word only",
+    WriteRightByTableOnly: "write right asks for W in the table word only",
+    WriteRightByDirectoryOnly: "write right asks for W in the directory word only",
+    UserByDirectoryOnly: "user right asks for U in the directory word only",
+    WriteHitIgnoresUser: "an entry with write right serves user writes without user right",
+    FetchHitIgnoresUser: "an entry serves user fetches without user right",
+    FetchKeepsNoWrite: "a fetch never keeps write right though D is set",
+    PdirNextRun: "PDIR empties the buffer and leaves pdir",
+    WriteHitIgnoresWrite: "an entry with user right serves writes",
+    DirectoryDirty: "a write sets D in the directory word too",
+    DirectoryBeyondAsPage: "a directory word that leads beyond memory is a page fault",
+    FrameBeyondAsPage: "a table word that leads beyond memory is a page fault",
     // Opcodes.
     BinIllegal: "BIN is illegal",
     NetworkNops: "0xb3 to 0xbb do nothing",
@@ -94,16 +120,63 @@ mistakes! {
     OverflowFaults: "-2^31 by -1 is FARITH",
     SublTakesAddress: "SUBL subtracts sp + imm itself",
     SpagLowBit: "SPAG takes a's low bit",
+    SpagLowByte: "SPAG takes a's low byte",
+    TimeLowByte: "TIME looks at the low byte of imm",
+    McmpSigned: "MCMP's bytes are signed",
+    MchrSigned: "MCHR's bytes are signed",
+    BlockShortCount: "block opcodes take c's low half",
+    ZeroBranchesAskB: "BZ and BNZ ask b",
+    PdirAsksAlignment: "PDIR faults where low bits are set",
+    BoutAtStart: "BOUT writes the console's first byte",
+    BoutWholeB: "BOUT writes nothing if b is above 255",
+    MsizInPages: "MSIZ gives pages",
     // Refusals and load.
     ZeroBudgetFirst: "budget 0 is accepted before the refusals",
     StoppedFirst: "a stopped machine is accepted before the refusals",
     TakenKeysUnchecked: "taken keys may fall",
     PdirFreeUnpaged: "pdir is judged only with paging on",
     SlotsPastCount: "slots past the count are judged too",
-    BudgetBeforeConsole: "6 is given before 5",
     RefusedLoadFresh: "a refused load gives kbchar = 0xFFFFFFFF",
     RefusedLoadZeros: "a refused load zeros memory",
     LoadKeepsRest: "a load keeps the bytes after the body",
     LoadAlignsData: "data start must be a multiple of 4",
     EntryWraps: "entry + 4 wraps",
+    MemoryByHalfPages: "M may be a multiple of 2,048",
+    CountLowByte: "the buffer's count is taken modulo 256",
+    GoodSlotsAboveCount: "a count above 64 passes where the 64 slots are good",
+    TwiceAdjacentOnly: "a page twice is seen in adjacent entries only",
+    PageUnchecked: "a buffered page of more than 20 bits passes",
+    FrameUnchecked: "a buffered frame beyond memory passes",
+    KeysByLowHalf: "the order of keys is judged by the low half of step numbers",
+    KeysSigned: "the order of keys is judged by signed step numbers",
+    LastKeyUnjudged: "the last key may fall",
+    TakenLowHalf: "keys taken are judged by their low half",
+    WrittenLowHalf: "the console count is judged by its low half",
+    BudgetLowHalf: "the budget is judged by its low half",
+    StopsFreeFrom2: "a machine stopped with 2 goes on",
+    DataStartSigned: "data start is signed",
+    BssCounts: "bss counts to the body's length",
+    ;
+    // By opcode byte; `families.rs` says what each means.
+    As(u8, u8),
+    Privileged(u8),
+    Open(u8),
+    ImmediateIsUnsigned(u8),
+    ImmediateIsShort(u8),
+    TargetKeepsLowBits(u8),
+    StackKeepsLowBits(u8),
+    VadrDropped(u8),
+    ReadsAsWrite(u8),
+    WritesAsRead(u8),
+    AsKernel(u8),
+    FaultOwnPc(u8),
+    // By numbers of refusals and traps, bits of pages, bytes of the magic, fields of the record.
+    Order(u32, u32),
+    TrapCode(u32, bool),
+    WalkDropsBit(u32),
+    HitDropsBit(u32),
+    FrameDropsBit(u32),
+    MagicByte(u8),
+    LooseField(u8),
+    UnjudgedField(u8),
 }

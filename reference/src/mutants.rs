@@ -3,17 +3,33 @@
 
 use crate::case::Case;
 use crate::expect::{play, Shown};
+use crate::families::opcode_of;
 use crate::mistake::Mistake;
 
 /// What must come out of each case, kept for all mistakes.
 pub struct Judge<'a> {
     cases: &'a [Case],
     shown: Vec<Vec<Shown>>,
+    /// The cases, the cheapest first: few steps, a small memory.
+    by_cost: Vec<usize>,
+    /// The same in which an opcode is executed, by opcode.
+    executing: Vec<Vec<usize>>,
 }
 
 impl<'a> Judge<'a> {
     pub fn new(cases: &'a [Case]) -> Judge<'a> {
-        Judge { cases, shown: cases.iter().map(|case| play(case, None).shown).collect() }
+        let played: Vec<_> = cases.iter().map(|case| play(case, None)).collect();
+        let cost = |number: &usize| played[*number].coverage.steps + cases[*number].bytes() / 256;
+        let mut by_cost: Vec<usize> = (0..cases.len()).collect();
+        by_cost.sort_by_key(cost);
+        let executes = |number: &usize, code: usize| {
+            let coverage = &played[*number].coverage;
+            coverage.completed[code] + coverage.faulted[code] > 0
+        };
+        let with = |code| by_cost.iter().copied().filter(|number| executes(number, code)).collect();
+        let executing = (0..256).map(with).collect();
+        let shown = played.into_iter().map(|played| played.shown).collect();
+        Judge { cases, shown, by_cost, executing }
     }
 
     /// Whether this case tells the mistake apart.
@@ -21,13 +37,13 @@ impl<'a> Judge<'a> {
         play(&self.cases[number], Some(mistake)).shown != self.shown[number]
     }
 
-    /// The first case that tells the mistake apart.
-    pub fn first_telling(&self, mistake: Mistake) -> Option<usize> {
-        (0..self.cases.len()).find(|number| self.tells(*number, mistake))
-    }
-
-    /// All cases that tell the mistake apart.
-    pub fn telling(&self, mistake: Mistake) -> Vec<usize> {
-        (0..self.cases.len()).filter(|number| self.tells(*number, mistake)).collect()
+    /// Cases that tell the mistake apart, at most so many.
+    pub fn telling(&self, mistake: Mistake, most: usize) -> Vec<usize> {
+        let candidates = match opcode_of(mistake) {
+            Some(code) => &self.executing[usize::from(code)],
+            None => &self.by_cost,
+        };
+        let telling = candidates.iter().copied().filter(|number| self.tells(*number, mistake));
+        telling.take(most).collect()
     }
 }

@@ -31,7 +31,8 @@ impl Machine {
                 return self.fault(trap, return_pc);
             }
         };
-        let code = usize::from(word as u8);
+        self.opcode = word as u8;
+        let code = usize::from(self.opcode);
         self.regs.pc = next;
         let Err(trap) = self.execute(word) else {
             self.coverage.completed[code] += 1;
@@ -61,6 +62,7 @@ impl Machine {
         let unexecuted = matches!(trap, Trap::Finst | Trap::Fpriv);
         (block && self.makes(Mistake::BlockFaultOwnPc))
             || (unexecuted && self.makes(Mistake::IllegalOwnPc))
+            || self.makes(Mistake::FaultOwnPc(self.opcode))
     }
 
     /// Planted mistakes only: other readings of what a stop leaves.

@@ -12,11 +12,11 @@ use crate::random::scene::{case, Purpose};
 
 /// Where the random cases are looked for.
 const SEED: u64 = 9;
-const TRIED: u64 = 4000;
+const TRIED: u64 = 2500;
 /// A random case's bytes and output may not be longer than this together.
 const LONGEST: usize = 5000;
 /// How many cases shall tell each mistake apart, if so many are found.
-const TELLING: u32 = 4;
+const TELLING: u32 = 3;
 
 /// What the cases chosen so far show.
 struct Chosen {
@@ -28,7 +28,8 @@ struct Chosen {
 impl Chosen {
     /// Adds a case and counts what it shows.
     fn add(&mut self, case: Case, played: &Played) {
-        for (count, mistake) in self.told.iter_mut().zip(Mistake::ALL) {
+        let wanting = self.told.iter_mut().zip(Mistake::ALL).filter(|(count, _)| **count < TELLING);
+        for (count, mistake) in wanting {
             *count += u32::from(play(&case, Some(*mistake)).shown != played.shown);
         }
         self.coverage.add(&played.coverage);

@@ -22,6 +22,7 @@ impl Machine {
             mistake: None,
             held_store: None,
             coverage: Coverage::default(),
+            opcode: 0,
         }
     }
 }

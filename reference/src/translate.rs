@@ -57,21 +57,24 @@ impl Machine {
 
     /// The frame address for a page without a usable entry, and the entry kept.
     fn walk(&mut self, address: u32, access: Access, user: bool) -> Result<u32, Trap> {
-        let directory_at = self.regs.pdir + 4 * (address >> 22);
+        let page = self.misread_page(address / PAGE);
+        let directory_at = self.regs.pdir + 4 * (page >> 10);
         let directory = words::get(&self.memory, directory_at, 4);
-        if directory & P == 0 {
+        if !self.present(directory) {
             return Err(page_fault(access));
         }
         let late = self.makes(Mistake::DirectoryMarkLate);
         if !late {
-            self.mark(directory_at, A);
+            let dirty = access == Access::Write && self.makes(Mistake::DirectoryDirty);
+            self.mark(directory_at, if dirty { A | D } else { A });
         }
         if directory & FRAME >= self.memory_size() {
-            return Err(Trap::Fmem);
+            let fault = page_fault(access);
+            return Err(self.pick(Mistake::DirectoryBeyondAsPage, fault, Trap::Fmem));
         }
         // Read after the mark: a self-mapped directory word is its own table word.
-        let table_at = (directory & FRAME) + 4 * ((address >> 12) & 0x3ff);
-        let table = words::get(&self.memory, table_at, 4);
+        let table_at = (directory & FRAME) + 4 * (page & 0x3ff);
+        let table = self.misread_frame(words::get(&self.memory, table_at, 4));
         if !self.permits(directory, table, access, user) {
             if table & P != 0 && self.makes(Mistake::TableMarkOnFault) {
                 self.mark(table_at, A);
@@ -87,7 +90,7 @@ impl Machine {
             self.mark(table_at, marks);
         }
         if beyond {
-            return Err(Trap::Fmem);
+            return Err(self.pick(Mistake::FrameBeyondAsPage, page_fault(access), Trap::Fmem));
         }
         let origin = Origin { directory: directory_at, table: table_at };
         self.keep_walked(address / PAGE, access, [directory, table | marks], origin);
@@ -114,20 +117,60 @@ impl Machine {
 
     /// Present; in user mode U in both words; for a write W in both words.
     fn permits(&self, directory: u32, table: u32, access: Access, user: bool) -> bool {
-        let both = directory & table;
+        let both = match self.mistake {
+            Some(Mistake::WriteByTableOnly) => table,
+            Some(Mistake::WriteByDirectoryOnly) => directory,
+            _ => directory & table,
+        };
         let asks_w = access == Access::Write && (user || !self.makes(Mistake::KernelIgnoresW));
-        table & P != 0 && (!user || self.user_right(directory, table)) && (!asks_w || both & W != 0)
+        self.present(table)
+            && (!user || self.user_right(directory, table))
+            && (!asks_w || both & W != 0)
+    }
+
+    fn present(&self, word: u32) -> bool {
+        self.pick(Mistake::PresentIfNotZero, word != 0, word & P != 0)
     }
 
     fn user_right(&self, directory: u32, table: u32) -> bool {
-        self.pick(Mistake::UserByTableOnly, table, directory & table) & U != 0
+        let both = match self.mistake {
+            Some(Mistake::UserByTableOnly) => table,
+            Some(Mistake::UserByDirectoryOnly) => directory,
+            _ => directory & table,
+        };
+        both & U != 0
     }
 
     /// "write right, which needs W in both words and D in the table word",
     /// as that word stands after the walk's own marks.
     fn write_right(&self, directory: u32, marked: u32, access: Access) -> bool {
         let dirty = marked & D != 0 || self.makes(Mistake::ReadFillWritable);
-        let by_write = access == Access::Write || !self.makes(Mistake::WriteRightByWriteOnly);
-        directory & marked & W != 0 && dirty && by_write
+        let by_write = match self.mistake {
+            Some(Mistake::WriteRightByWriteOnly) => access == Access::Write,
+            Some(Mistake::FetchKeepsNoWrite) => access != Access::Fetch,
+            _ => true,
+        };
+        let both = match self.mistake {
+            Some(Mistake::WriteRightByTableOnly) => marked,
+            Some(Mistake::WriteRightByDirectoryOnly) => directory,
+            _ => directory & marked,
+        };
+        both & W != 0 && dirty && by_write
+    }
+
+    /// Planted mistakes only: the page number that a walk follows.
+    fn misread_page(&self, page: u32) -> u32 {
+        match self.mistake {
+            Some(Mistake::WalkDropsBit(bit)) => page & !(1 << bit),
+            _ => page,
+        }
+    }
+
+    /// Planted mistakes only: the frame that a table word names.
+    fn misread_frame(&self, word: u32) -> u32 {
+        match self.mistake {
+            Some(Mistake::FrameDropsBit(bit)) => word & !(PAGE << bit),
+            _ => word,
+        }
     }
 }

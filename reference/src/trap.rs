@@ -23,8 +23,12 @@ impl Machine {
     /// Both slots are translated for kernel writing before either is stored.
     pub fn deliver(&mut self, trap: Trap, return_pc: u32) {
         let user = self.regs.user;
-        let top = if user { self.regs.ksp } else { self.regs.sp };
+        let switches = user || self.makes(Mistake::KernelSetsUsp);
+        let top = if switches { self.regs.ksp } else { self.regs.sp };
         let (pc_slot, code_slot) = (top.wrapping_sub(8), top.wrapping_sub(16));
+        if self.makes(Mistake::SlotsCodeFirst) && self.frame_slot(code_slot).is_none() {
+            return;
+        }
         let Some(pc_at) = self.frame_slot(pc_slot) else { return };
         if self.makes(Mistake::FrameSlotBySlot) {
             self.store_slot(pc_at, return_pc);
@@ -33,23 +37,24 @@ impl Machine {
         self.store_slot(pc_at, return_pc);
         self.store_slot(code_at, self.code(trap));
         self.coverage.trap(trap, user);
-        if user {
-            self.regs.usp = self.regs.sp;
+        if switches {
+            self.regs.usp = self.pick(Mistake::UspKept, self.regs.usp, self.regs.sp);
             self.regs.user = false;
         }
         self.regs.sp = code_slot;
-        self.regs.iena = false;
+        self.regs.iena = self.makes(Mistake::IenaKept);
         self.regs.pc = self.regs.ivec;
     }
 
     /// A slot's physical address; a refusal stops and doesn't set vadr.
     fn frame_slot(&mut self, slot: u32) -> Option<u32> {
-        let answer = self.translate(slot, Access::Write, false);
+        let user = self.regs.user && self.makes(Mistake::SlotsByMode);
+        let answer = self.translate(slot, Access::Write, user);
         if answer.is_err() {
             self.regs.stop = Stop::NoFrame;
             self.regs.vadr = self.pick(Mistake::SlotSetsVadr, slot, self.regs.vadr);
         }
-        answer.ok()
+        answer.ok().map(|physical| physical & !3)
     }
 
     /// Four bytes a slot; the other four keep.
@@ -62,6 +67,7 @@ impl Machine {
 
     fn code(&self, trap: Trap) -> u32 {
         let unmarked = trap.is_interrupt() && self.makes(Mistake::InterruptsUnmarked);
-        trap as u32 + if self.regs.user && !unmarked { USER_MARK } else { 0 }
+        let wrong = self.makes(Mistake::TrapCode(trap as u32, self.regs.user));
+        trap as u32 + u32::from(wrong) + if self.regs.user && !unmarked { USER_MARK } else { 0 }
     }
 }

@@ -20,6 +20,9 @@ fn faults(name: &str, vadr: u32, words: &[(u32, u32)]) {
 #[test]
 fn marks_of_faulting_walks() {
     faults("directory absent", 0x40_0003, &[(0x1004, 0)]);
+    faults("directory word without P", 0x40_0000, &[(0x1004, 0x2006)]);
+    faults("directory far beyond memory", 0x40_0000, &[(0x1004, 0xffff_f027)]);
+    faults("frame far beyond memory", 0x4002, &[(0x2010, 0xffff_f027)]);
     faults("directory beyond memory", 0x40_0000, &[(0x1004, 0x4027)]);
     faults("table word absent", 0x4000, &[(0x1000, 0x2027), (0x2010, 0x3006)]);
     faults("no W in the table word", 0x3000, &[(0x200c, 0x3005)]);
@@ -44,7 +47,12 @@ fn rights_of_entries() {
     assert_eq!(after("read with D set").entries()[1], (3, 3, true, true));
     assert_eq!(after("read with D clear").entries()[1], (3, 3, true, false));
     assert_eq!(after("read with D set, no W").entries()[1], (3, 3, true, false));
+    assert_eq!(after("read with D set, no W above").entries()[1], (0x403, 3, true, false));
     assert_eq!(after("kernel read without U above").entries()[1], (0x403, 3, false, false));
+    assert_eq!(after("kernel read without U").entries()[1], (3, 3, false, false));
+    assert_eq!(after("kernel write without U").entries()[1], (3, 3, false, true));
+    let above = after("no D in the directory word");
+    assert_eq!((above.word(0x1004), above.word(0x200c)), (0x2027, 0x3067));
     let write = after("user write");
     assert_eq!(write.entries()[1], (3, 3, true, true));
     assert_eq!(write.word(0x200c), 0x3067);
@@ -70,6 +78,14 @@ fn an_entry_that_does_not_serve_is_walked_for_again() {
     let user = after("user meets a kernel entry");
     assert_eq!(user.entries(), [(3, 3, true, false), KEPT]);
     assert_eq!(user.word(0x200c), 0x3027);
+    for name in ["user write meets a kernel entry", "user write meets a read entry"] {
+        let write = after(name);
+        assert_eq!(write.entries(), [(3, 3, true, true), KEPT], "{name}");
+        assert_eq!(write.word(0x200c), 0x3067, "{name}");
+    }
+    let fetch = after("user fetch meets a kernel entry");
+    assert_eq!((fetch.entries(), fetch.word(0x2000)), (vec![KEPT], 0x27));
+    assert_eq!(after("fetch with D set").entries(), [(0, 0, true, true)]);
     let write = after("write meets a read entry");
     assert_eq!(write.entries(), [(3, 3, true, true), KEPT]);
     assert_eq!(write.word(0x200c), 0x3067);
@@ -87,6 +103,13 @@ fn pdir_and_spag_empty_the_buffer() {
         assert_eq!(after(name).entries(), [], "{name}");
     }
     assert_eq!(after("PDIR with the same value").regs().pdir, 0x1000);
+    let elsewhere = after("PDIR to another directory");
+    assert_eq!((elsewhere.regs().pdir, elsewhere.regs().a), (0x3000, 2));
+    assert_eq!((elsewhere.entries(), elsewhere.word(0x3000)), (vec![(0, 3, true, false)], 0x3027));
+    assert_eq!(after("PDIR at the last page").regs().pdir, 0x3000);
+    let far = after("PDIR far beyond");
+    assert_eq!((far.regs().stop, far.regs().vadr), (Stop::Masked, 0xffff_f000));
+    assert!(after("SPAG by a low byte of 0").regs().paging);
     let beyond = after("PDIR beyond memory");
     assert_eq!((beyond.regs().stop, beyond.regs().vadr), (Stop::Masked, 0x4000));
     assert_eq!(beyond.entries(), [(9, 3, true, true), KEPT]);

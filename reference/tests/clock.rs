@@ -11,6 +11,14 @@ fn keys_are_due_by_the_raised_count() {
     let later = after("key not yet due");
     assert_eq!((later.regs().kbchar, later.regs().keys), (NO_KEY, 0));
     assert_eq!(after("key 0xff").regs().kbchar, 255);
+    for (name, keys) in [
+        ("key due in the high half alone", 0),
+        ("key due beyond 2^32", 1),
+        ("key due though its low half is larger", 1),
+        ("key of step 2^63", 0),
+    ] {
+        assert_eq!(after(name).regs().keys, keys, "{name}");
+    }
 }
 
 #[test]
@@ -42,6 +50,13 @@ fn the_timer_passes_timeout() {
     let last = after("timer at 2^32 - 1");
     last.delivered(0xf00, 1, 0x100);
     assert_eq!(last.regs().timer, 0);
+    for name in ["timer above timeout", "timer of 2^31"] {
+        let passed = after(name);
+        passed.delivered(0xf00, 1, 0x100);
+        assert_eq!(passed.regs().timer, 0, "{name}");
+    }
+    let below = after("timeout of 2^31");
+    assert_eq!((below.regs().timer, below.regs().pc), (6, 0x104));
     let before_last = after("timer at 2^32 - 2");
     assert_eq!((before_last.regs().timer, before_last.regs().pc), (u32::MAX, 0x104));
 }
@@ -61,6 +76,8 @@ fn time_sets_timeout_alone() {
     next.delivered(0xf00, 1, 0x104);
     assert_eq!(next.regs().timer, 0);
     let unset = after("TIME with an operand");
+    assert_eq!((unset.regs().timer, unset.regs().timeout), (6, 9));
+    let unset = after("TIME with a low byte of 0");
     assert_eq!((unset.regs().timer, unset.regs().timeout), (6, 9));
 }
 
@@ -89,4 +106,5 @@ fn the_step_count() {
     assert_eq!(late.outcomes.iter().map(|outcome| outcome.answer).collect::<Vec<_>>(), [0, 2]);
     assert_eq!(late.regs().count, (1 << 63) + 1);
     assert_eq!(after("CYC").regs().a, 0x2345_678a);
+    assert_eq!(after("CYC of bit 31").regs().a, 0x8000_0001);
 }

@@ -1,9 +1,7 @@
 //! What must come of the directed cases on opcodes.
 
 mod common;
-use common::{after, after_runs, runs};
-use reference::opcodes::decode::{can_fault_in_kernel, decode, Base, Op, Reg, Width};
-use reference::opcodes::sets::{name_of, ILLEGAL, LEGAL, PRIVILEGED};
+use common::{after, after_runs};
 use reference::types::{Registers, Stop, NO_KEY};
 
 /// Cases of one step that completes: only a, pc and the count change.
@@ -20,6 +18,11 @@ fn arithmetic() {
     gives_a("MOD of 7 by -2", 1);
     gives_a("DVUI by -1", 1);
     gives_a("MDUI by -2", 1);
+    // 14,400 times 74,565 is 1,073,736,000, which leaves 71,936.
+    gives_a("DVUI by 0x12345", 14_400);
+    gives_a("MDUI by 0x12345", 71_936);
+    gives_a("LI of -2^23", 0xff80_0000);
+    assert_eq!(after("LBHI over old bits").regs().b, 0x81ab_cdef);
     gives_a("ANDI -2", 0xffff_fffe);
     gives_a("XORI -1", 0xffff_fffe);
     gives_a("MUL wraps", 0x0002_0001);
@@ -66,6 +69,11 @@ fn jumps() {
     let call = after("JSRA is relative");
     assert_eq!((call.regs().pc, call.regs().sp, call.word(0xef8)), (0x124, 0xef8, 0x104));
     assert_eq!(after("JMPI").regs().pc, 0x124);
+    // 0x104 + 0x12 + 0x11
+    assert_eq!(after("JMPI drops low bits").regs().pc, 0x124);
+    assert_eq!(after("JMP drops low bits").regs().pc, 0x124);
+    let far_call = after("JSR drops low bits");
+    assert_eq!((far_call.regs().pc, far_call.word(0xef8)), (0x124, 0x104));
     assert_eq!(after("JMPI by a negative a").regs().pc, 0x2000_00fc);
     assert_eq!(after("ENT drops low bits").regs().sp, 0xf08);
     let back = after("LEV drops low bits");
@@ -88,6 +96,13 @@ fn blocks_end() {
     let regs = differs.regs();
     // Step 1 finds 1 and 1, step 2 finds b's 2 and a's 3, with c = 3.
     assert_eq!((regs.a, regs.b, regs.c, regs.pc), (0xffff_ffff, 0x204, 0, 0x104));
+    // 0x80 less 1, and 1 less 0x80.
+    assert_eq!(after("MCMP of a high byte of b").regs().a, 0x7f);
+    assert_eq!(after("MCMP of a high byte of a").regs().a, 0xffff_ff81);
+    let high = after("MCHR finds a high byte");
+    assert_eq!((high.regs().a, high.regs().c, high.regs().pc), (0x200, 0, 0x104));
+    let long = after("MCMP with c = 2^31");
+    assert_eq!((long.regs().a, long.regs().c, long.regs().pc), (0x201, 0x7fff_ffff, 0x100));
     let first = after_runs("MCMP of equals", 1);
     assert_eq!((first.regs().a, first.regs().c, first.regs().pc), (0x303, 0, 0x100));
     let second = after("MCMP of equals");
@@ -107,6 +122,8 @@ fn blocks_store() {
     assert_eq!((two.regs().a, two.regs().c, two.regs().pc), (0x202, 0, 0x100));
     assert_eq!(two.word(0x200), 0xabab);
     assert_eq!(after("MSET").regs().pc, 0x104);
+    let long = after("MSET with c = 2^16");
+    assert_eq!((long.regs().c, long.regs().pc, long.word(0x200)), (0xfffe, 0x100, 0x0505));
     assert_eq!(after("MCPY overlapping").word(0x200), 0x0101_0101);
     // The first byte turns MSET into NOP.
     let itself = after("MSET over itself");
@@ -124,6 +141,7 @@ fn devices() {
     assert_eq!((first.regs().a, first.regs().written, first.machine.console[0]), (1, 1, 0x41));
     let full = after("BOUT until full");
     assert_eq!((full.regs().a, full.regs().written), (0xffff_ffff, 1));
+    assert_eq!(after("BOUT twice").machine.console, [0x41, 0x42, 7]);
     gives_a("BOUT without a console", 0xffff_ffff);
     let read = after_runs("BIN twice", 1);
     assert_eq!((read.regs().a, read.regs().kbchar), (65, NO_KEY));
@@ -145,88 +163,4 @@ fn modes() {
     open.delivered(0xe00, 19, 0x104);
     assert_eq!(open.regs().ksp, 0xe00);
     assert_eq!(after("0xb3").regs().stop, Stop::Masked);
-}
-
-#[test]
-fn every_privileged_opcode_traps_in_user_mode() {
-    for code in PRIVILEGED.iter() {
-        after(&format!("user {}", name_of(*code))).delivered(0xe00, 19, 0x104);
-    }
-}
-
-#[test]
-fn every_illegal_byte_traps() {
-    for (nth, codes) in ILLEGAL.chunks(40).enumerate() {
-        let after = after(&format!("illegal {nth}"));
-        assert_eq!(after.regs().pc, 0x100 + 4 * codes.len() as u32);
-        assert_eq!(after.machine.coverage.completed.iter().sum::<u64>(), codes.len() as u64);
-    }
-}
-
-#[test]
-fn every_legal_opcode_completes() {
-    for code in LEGAL.iter() {
-        let name = name_of(*code);
-        let after = after(&format!("opcode {name}"));
-        let stop = match name {
-            "HALT" => Stop::Halted,
-            "TRAP" => Stop::Masked,
-            _ => Stop::Running,
-        };
-        assert_eq!((after.regs().stop, after.regs().count), (stop, 1), "{name}");
-    }
-}
-
-/// Loads and stores of the single cases, by the bytes of memory alone.
-#[test]
-fn every_load_and_store() {
-    for code in LEGAL.iter() {
-        let Some(op) = decode(*code) else { continue };
-        let (Op::Load(_, base, width) | Op::Store(base, width)) = op else { continue };
-        let name = format!("opcode {}", name_of(*code));
-        let given = runs(&name);
-        let regs = &given.record.regs;
-        let start = match base {
-            Base::Sp => regs.sp,
-            Base::Pc => 0x104,
-            Base::RegA => regs.a,
-            Base::RegB => regs.b,
-        } as usize;
-        let at = start + 12;
-        let after = after(&name);
-        let memory = if matches!(op, Op::Load(..)) { &given.memory } else { &after.machine.memory };
-        let half = u16::from_le_bytes([memory[at & !1], memory[at | 1]]);
-        let word = u32::from_le_bytes(memory[at & !3..(at & !3) + 4].try_into().unwrap());
-        let value = match width {
-            Width::Word => word,
-            Width::SignedHalf => half as i16 as u32,
-            Width::Half => u32::from(half),
-            Width::SignedByte => memory[at] as i8 as u32,
-            Width::Byte => u32::from(memory[at]),
-        };
-        let mask = match width {
-            Width::Half => 0xffff,
-            Width::Byte => 0xff,
-            _ => u32::MAX,
-        };
-        match op {
-            Op::Load(Reg::A, ..) => assert_eq!(after.regs().a, value, "{name}"),
-            Op::Load(Reg::B, ..) => assert_eq!(after.regs().b, value, "{name}"),
-            Op::Load(Reg::C, ..) => assert_eq!(after.regs().c, value, "{name}"),
-            _ => assert_eq!(value, regs.a & mask, "{name}"),
-        }
-    }
-}
-
-#[test]
-fn every_opcode_that_can_fault_does() {
-    let faulting: Vec<u8> =
-        (0..=255).filter(|code| decode(*code).is_some_and(can_fault_in_kernel)).collect();
-    for (nth, codes) in faulting.chunks(48).enumerate() {
-        let after = after(&format!("faults {nth}"));
-        assert_eq!(after.regs().pc, 0x100 + 4 * codes.len() as u32);
-        for code in codes {
-            assert_eq!(after.machine.coverage.faulted[usize::from(*code)], 1);
-        }
-    }
 }

@@ -97,6 +97,47 @@ fn a_frame_may_lie_over_address_0() {
     assert_eq!(after.entries(), [(0, 0, true, true), (0xf_ffff, 3, true, true)]);
 }
 
+/// The pc's slot is on page 3 and is translated first, the code's on page 2.
+#[test]
+fn a_frame_may_lie_on_two_pages() {
+    let both = after("frame over two pages");
+    both.delivered(0x3008, 5, 0x104);
+    let kept = (0, 0, true, false);
+    assert_eq!(both.entries(), [kept, (3, 3, true, true), (2, 2, true, true)]);
+    // Page 2 is the table itself, and lacks W: the first slot's walk stays.
+    let refused = after("second slot refused after a walk");
+    assert_eq!((refused.regs().stop, refused.regs().vadr), (Stop::NoFrame, 0));
+    assert_eq!((refused.regs().sp, refused.regs().pc), (0x3008, 0x100));
+    assert_eq!(refused.entries(), [kept, (3, 3, true, true)]);
+    assert_eq!([0x3000, 0x200c, 0x2008].map(|at| refused.word(at)), [0, 0x3067, 0x2005]);
+}
+
+#[test]
+fn a_frame_is_written_for_the_kernel() {
+    let after = after("frame on a page without U");
+    after.delivered(0xe00, 21, 0x104);
+    assert_eq!(after.entries(), [(0, 0, false, true)]);
+    assert_eq!(after.word(0x2000), 0x63);
+}
+
+#[test]
+fn privilege_comes_before_the_access() {
+    for name in ["RTI from user mode, no stack", "PDIR from user mode, beyond"] {
+        let after = after(name);
+        after.delivered(0xe00, 19, 0x104);
+        assert_eq!(after.regs().vadr, 0, "{name}");
+    }
+}
+
+#[test]
+fn read_faults_are_delivered() {
+    let kernel = after("FRPAGE in kernel mode");
+    kernel.delivered(0xf00, 9, 0x104);
+    let user = after("FRPAGE in user mode");
+    user.delivered(0xe00, 25, 0x104);
+    assert_eq!((kernel.regs().vadr, user.regs().vadr), (0x5006, 0x5006));
+}
+
 #[test]
 fn returns_from_traps() {
     for name in ["RTI with 0x37", "RTI with 16"] {

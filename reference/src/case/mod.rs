@@ -96,6 +96,16 @@ impl Runs {
     }
 }
 
+impl Case {
+    /// Bytes of the lent memory.
+    pub fn bytes(&self) -> u64 {
+        match self {
+            Case::Runs(runs) => runs.memory.len() as u64,
+            Case::Load(load) => load.memory_length as u64,
+        }
+    }
+}
+
 impl From<Runs> for Case {
     fn from(runs: Runs) -> Case {
         Case::Runs(Box::new(runs))

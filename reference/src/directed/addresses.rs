@@ -18,6 +18,10 @@ fn marks() -> Vec<(&'static str, Runs)> {
     let write = |at: u32| paged(ab(9, at), &[op("SX", 0)]);
     vec![
         ("directory absent", read(0x40_0003).run(1)),
+        ("directory word without P", read(0x40_0000).words(0x1004, &[0x2006]).run(1)),
+        ("directory far beyond memory", read(0x40_0000).words(0x1004, &[0xffff_f007]).run(1)),
+        ("frame far beyond memory", read(0x4002).words(0x2010, &[0xffff_f007]).run(1)),
+        ("no D in the directory word", write(0x40_3000).words(0x1004, &[0x2007]).run(1)),
         ("directory beyond memory", read(0x40_0000).words(0x1004, &[0x4007]).run(1)),
         ("table word absent", read(0x4000).words(0x2010, &[0x3006]).run(1)),
         ("no W in the table word", write(0x3000).words(0x200c, &[0x3005]).run(1)),
@@ -54,6 +58,9 @@ fn rights() -> Vec<(&'static str, Runs)> {
         ("read with D set", read(kernel(), 0x3047).run(1)),
         ("read with D clear", read(kernel(), 0x3007).run(1)),
         ("read with D set, no W", read(kernel(), 0x3045).run(1)),
+        ("read with D set, no W above", by_directory(read(kernel(), 0x3047), 0x2005).run(1)),
+        ("kernel read without U", read(kernel(), 0x3003).run(1)),
+        ("kernel write without U", write(kernel(), 0x3003).run(1)),
         ("user read without U", read(user(), 0x3003).run(1)),
         ("user read without U above", by_directory(read(user(), 0x3007), 0x2003).run(1)),
         ("kernel read without U above", by_directory(read(kernel(), 0x3007), 0x2003).run(1)),
@@ -80,13 +87,24 @@ fn buffer() -> Vec<(&'static str, Runs)> {
     vec![
         ("entries keep their positions", paged(ab(0x3000, 0x3000), &program).run(3).run(2)),
         ("user meets a kernel entry", held(asked(user()), op("LX", 0), false, true)),
+        (
+            "user fetch meets a kernel entry",
+            paged(user(), &[op("NOP", 0)]).entry(0, 0, false, true).run(1),
+        ),
+        ("fetch with D set", paged(kernel(), &[op("NOP", 0)]).words(0x2000, &[0x0047]).run(1)),
+        ("PDIR to another directory", elsewhere()),
+        ("user write meets a kernel entry", held(asked(user()), op("SX", 0), false, true)),
+        ("user write meets a read entry", held(asked(user()), op("SX", 0), true, false)),
         ("write meets a read entry", held(asked(kernel()), op("SX", 0), true, false)),
         ("a refused walk leaves the entry", refused),
         ("a stale entry serves", stale),
         ("PDIR with the same value", setter(0x1fff, op("PDIR", 0))),
         ("PDIR beyond memory", setter(0x4000, op("PDIR", 0))),
         ("SPAG with the same value", setter(2, op("SPAG", 0))),
+        ("PDIR at the last page", setter(0x3fff, op("PDIR", 0))),
+        ("PDIR far beyond", setter(0xffff_f000, op("PDIR", 0))),
         ("SPAG off", setter(0, op("SPAG", 0))),
+        ("SPAG by a low byte of 0", bare(ab(0x8000_0000, 0), &[op("SPAG", 0)]).run(1)),
         ("SPAG by an even number", bare(ab(2, 0), &[op("SPAG", 0), op("NOP", 0)]).run(2)),
         (
             "paging off keeps entries",
@@ -94,6 +112,15 @@ fn buffer() -> Vec<(&'static str, Runs)> {
         ),
         ("user mode with paging off", bare(user(), &[op("SL", 0)]).run(1)),
     ]
+}
+
+/// Page 3 becomes a directory and its own table, by which page 0 leads to it:
+/// the next instruction is the one there.
+fn elsewhere() -> Runs {
+    paged(ab(0x3000, 0), &[op("PDIR", 0), op("LI", 1)])
+        .words(0x3000, &[0x3007])
+        .words(0x3104, &[op("LI", 2)])
+        .run(2)
 }
 
 /// 64 entries: page 0, where the program is, and 63 others.

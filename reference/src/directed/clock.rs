@@ -19,10 +19,15 @@ fn keys() -> Vec<(&'static str, Runs)> {
     let quiet = Registers { kbchar: NO_KEY, ..kernel() };
     let unread = [(0, 1), (0, 2), (1, 3)];
     let taken = Registers { keys: 1, count: 10, ..quiet.clone() };
+    let late = Registers { count: (1 << 32) + 5, ..quiet.clone() };
     vec![
         ("key by the raised count", nops(quiet.clone()).run_keys(1, &[(1, 65)])),
         ("key not yet due", nops(quiet.clone()).run_keys(2, &[(3, 65)])),
         ("key 0xff", nops(quiet.clone()).run_keys(1, &[(1, 0xff)])),
+        ("key due in the high half alone", nops(quiet.clone()).run_keys(2, &[((1 << 32) + 1, 65)])),
+        ("key due beyond 2^32", nops(late.clone()).run_keys(1, &[((1 << 32) + 6, 65)])),
+        ("key due though its low half is larger", nops(late).run_keys(1, &[(9, 65)])),
+        ("key of step 2^63", nops(quiet.clone()).run_keys(2, &[(1 << 63, 65)])),
         ("one key a step", nops(quiet.clone()).run_keys(2, &unread)),
         (
             "keys go on in the next run",
@@ -47,6 +52,9 @@ fn timers() -> Vec<(&'static str, Runs)> {
         ("timeout 0 keeps the timer", nops(timer(7, 0)).run(2)),
         ("timer at 2^32 - 1", nops(timer(MAX, MAX)).run(1)),
         ("timer at 2^32 - 2", nops(timer(MAX - 1, MAX)).run(1)),
+        ("timer above timeout", nops(timer(9, 4)).run(1)),
+        ("timer of 2^31", nops(timer(1 << 31, 5)).run(1)),
+        ("timeout of 2^31", nops(timer(5, 1 << 31)).run(1)),
         (
             "a masked timer raises nothing later",
             bare(Registers { iena: false, ..timer(4, 4) }, &[op("STI", 0), op("NOP", 0)]).run(2),
@@ -55,7 +63,8 @@ fn timers() -> Vec<(&'static str, Runs)> {
             "TIME keeps the timer",
             bare(restart.clone(), &[op("TIME", 0), op("NOP", 0)]).run(1).run(1),
         ),
-        ("TIME with an operand", bare(restart, &[op("TIME", 1)]).run(1)),
+        ("TIME with an operand", bare(restart.clone(), &[op("TIME", 1)]).run(1)),
+        ("TIME with a low byte of 0", bare(restart, &[op("TIME", 0x100)]).run(1)),
     ]
 }
 
@@ -75,6 +84,10 @@ fn waits() -> Vec<(&'static str, Runs)> {
             nops(Registers { timeout: 1, ..waiting(open(kernel())) }).run(1).run(1),
         ),
         ("the count passes 2^63", nops(late).run(2).run(1)),
+        (
+            "CYC of bit 31",
+            bare(Registers { count: 0x8000_0000, ..kernel() }, &[op("CYC", 0)]).run(1),
+        ),
         ("CYC", bare(Registers { count: 0x1_2345_6789, ..kernel() }, &[op("CYC", 0)]).run(1)),
     ]
 }

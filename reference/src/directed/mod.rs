@@ -3,8 +3,11 @@
 
 pub mod addresses;
 pub mod clock;
+pub mod every;
+pub mod large;
 pub mod opcodes;
 pub mod refusals;
+pub mod tables;
 pub mod traps;
 
 use crate::case::{Case, Runs};
@@ -22,8 +25,10 @@ pub fn all() -> Vec<Named> {
         .chain(named(clock::cases()))
         .chain(named(addresses::cases()))
         .chain(named(opcodes::cases()))
-        .chain(opcodes::every_opcode())
+        .chain(named(tables::cases()))
+        .chain(every::cases())
         .chain(refusals::cases())
+        .chain(named(large::cases()))
         .collect()
 }
 

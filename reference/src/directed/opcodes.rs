@@ -1,73 +1,12 @@
-//! Opcodes: one case for each of the 137 legal ones, the illegal ones in a
-//! row, and the decisions of document 01.
+//! The decisions of document 01 on opcodes.
 
-use super::{bare, kernel, open, paged, user, Named, HANDLER, PROGRAM};
+use super::{bare, kernel, open, paged, user, PROGRAM};
 use crate::case::Runs;
-use crate::opcodes::decode::{can_fault_in_kernel, decode, Op, Source};
-use crate::opcodes::sets::{name_of, ILLEGAL, LEGAL, PRIVILEGED};
 use crate::types::Registers;
-use crate::words::instruction;
 use crate::worked::op;
 
 const MINUS_1: u32 = u32::MAX;
 const MIN: u32 = 0x8000_0000;
-
-/// Registers that lead every opcode's access into the pattern.
-fn ready() -> Registers {
-    Registers { a: 0x241, b: 0x253, c: 3, sp: 0x260, kbchar: 5, vadr: 6, ..kernel() }
-}
-
-/// Every legal opcode with a small operand, every privileged one from user
-/// mode, and every illegal byte.
-pub fn every_opcode() -> Vec<Named> {
-    let pattern: Vec<u8> = (0..96).map(|nth: u32| (nth * 37 + 0x85) as u8).collect();
-    let one = |regs: Registers, code: u8| {
-        bare(regs, &[instruction(code, 12)]).bytes(0x230, &pattern).console(&[9; 2]).run(1)
-    };
-    let mut cases: Vec<Named> = Vec::new();
-    for code in LEGAL.iter() {
-        cases.push((format!("opcode {}", name_of(*code)), one(ready(), *code).into()));
-    }
-    for code in PRIVILEGED.iter() {
-        let regs = Registers { user: true, ..open(ready()) };
-        cases.push((format!("user {}", name_of(*code)), one(regs, *code).into()));
-    }
-    cases.extend(every_fault());
-    for (nth, codes) in ILLEGAL.chunks(40).enumerate() {
-        let words: Vec<u32> = codes.iter().map(|code| instruction(*code, 0x77)).collect();
-        let regs = if nth % 2 == 0 { kernel() } else { user() };
-        let runs = bare(open(regs), &words).words(HANDLER, &[op("RTI", 0)]);
-        cases.push((format!("illegal {nth}"), runs.run(2 * codes.len() as u64).into()));
-    }
-    cases
-}
-
-/// In user mode, with a, b and sp such that every legal opcode that can fault
-/// does; the handler returns to the next.
-fn every_fault() -> Vec<Named> {
-    let faulting = |code: &u8| decode(*code).is_some_and(can_fault_in_kernel);
-    let codes: Vec<u8> = LEGAL.iter().copied().filter(faulting).collect();
-    let regs = Registers { a: 0xffff_0000, c: 3, sp: 0x1000_0000, ..open(user()) };
-    let regs = Registers { usp: regs.sp, ..regs };
-    let mut cases = Vec::new();
-    for (nth, codes) in codes.chunks(48).enumerate() {
-        let words: Vec<u32> = codes.iter().map(|code| instruction(*code, far(*code))).collect();
-        let mut runs = bare(regs.clone(), &words).words(HANDLER, &[op("RTI", 0)]);
-        for _ in codes {
-            runs = runs.run(2);
-        }
-        cases.push((format!("faults {nth}"), runs.into()));
-    }
-    cases
-}
-
-/// An operand beyond memory, or 0 to divide by.
-fn far(code: u8) -> u32 {
-    match decode(code) {
-        Some(Op::Arith(_, Source::Immediate)) => 0,
-        _ => 0x7f_f000,
-    }
-}
 
 pub fn cases() -> Vec<(&'static str, Runs)> {
     [arithmetic(), moves(), blocks(), system()].concat()
@@ -90,6 +29,10 @@ fn arithmetic() -> Vec<(&'static str, Runs)> {
         ("MOD of 7 by -2", one(7, -2i32 as u32, op("MOD", 0))),
         ("DVUI by -1", one(MINUS_1, 0, op("DVUI", -1))),
         ("MDUI by -2", one(MINUS_1, 0, op("MDUI", -2))),
+        ("DVUI by 0x12345", one(0x4001_0240, 0, op("DVUI", 0x1_2345))),
+        ("MDUI by 0x12345", one(0x4001_0240, 0, op("MDUI", 0x1_2345))),
+        ("LBHI over old bits", one(0x77, 0x1234_5681, op("LBHI", 0xab_cdef))),
+        ("LI of -2^23", one(0, 0, op("LI", -0x80_0000))),
         ("ANDI -2", one(MINUS_1, 0, op("ANDI", -2))),
         ("XORI -1", one(1, 0, op("XORI", -1))),
         ("MUL wraps", one(0x10001, 0x10001, op("MUL", 0))),
@@ -119,6 +62,9 @@ fn moves() -> Vec<(&'static str, Runs)> {
         ("push from sp 0, delivered", bare(open(no_stack), &[op("PSHA", 0)]).run(1)),
         ("JSRA is relative", bare(ab(0x21, 0), &[op("JSRA", 0)]).run(1)),
         ("JMPI", bare(ab(0x43, 0), &[op("JMPI", 0x10)]).run(1)),
+        ("JMPI drops low bits", bare(ab(0x47, 0), &[op("JMPI", 0x12)]).run(1)),
+        ("JMP drops low bits", bare(kernel(), &[op("JMP", 0x23)]).run(1)),
+        ("JSR drops low bits", bare(kernel(), &[op("JSR", 0x22)]).run(1)),
         ("JMPI by a negative a", bare(ab(MIN, 0), &[op("JMPI", -8)]).run(1)),
         ("ENT drops low bits", bare(kernel(), &[op("ENT", 12)]).run(1)),
         ("LEV drops low bits", bare(kernel(), &[op("LEV", 13)]).words(0xf00, &[0x207]).run(1)),
@@ -138,8 +84,14 @@ fn blocks() -> Vec<(&'static str, Runs)> {
     let abc = |a: u32, b: u32, c: u32| Registers { c, ..ab(a, b) };
     let nowhere = abc(0xffff_0000, 0xffff_0000, 0);
     let data = |runs: Runs| runs.bytes(0x200, &[1, 2, 3, 4]).bytes(0x300, &[1, 3, 3, 4]);
+    let high = |runs: Runs| runs.bytes(0x200, &[0x80]).bytes(0x300, &[1]);
     vec![
         ("MCMP differs", data(bare(abc(0x300, 0x200, 4), &[op("MCMP", 0)])).run(2)),
+        ("MCMP of a high byte of b", high(bare(abc(0x300, 0x200, 1), &[op("MCMP", 0)])).run(1)),
+        ("MCMP of a high byte of a", high(bare(abc(0x200, 0x300, 1), &[op("MCMP", 0)])).run(1)),
+        ("MCHR finds a high byte", high(bare(abc(0x200, 0x180, 9), &[op("MCHR", 0)])).run(1)),
+        ("MSET with c = 2^16", bare(abc(0x200, 5, 1 << 16), &[op("MSET", 0)]).run(2)),
+        ("MCMP with c = 2^31", data(bare(abc(0x200, 0x300, 1 << 31), &[op("MCMP", 0)])).run(1)),
         ("MCMP of equals", data(bare(abc(0x302, 0x202, 1), &[op("MCMP", 0)])).run(1).run(1)),
         ("MCMP with c = 0", bare(nowhere.clone(), &[op("MCMP", 0)]).run(1)),
         ("MCHR with c = 0", bare(nowhere.clone(), &[op("MCHR", 0)]).run(1)),
@@ -166,6 +118,10 @@ fn system() -> Vec<(&'static str, Runs)> {
         (
             "BOUT until full",
             bare(b(0x141), &[op("BOUT", 0), op("BOUT", 0)]).console(&[0]).run(1).run(1),
+        ),
+        (
+            "BOUT twice",
+            bare(b(0x41), &[op("BOUT", 0), op("LBI", 0x42), op("BOUT", 0)]).console(&[7; 3]).run(3),
         ),
         ("BOUT without a console", bare(b(0x141), &[op("BOUT", 0)]).run(1)),
         ("BIN twice", bare(asked.clone(), &[op("BIN", 0), op("BIN", 0)]).run(1).run(1)),

@@ -36,6 +36,8 @@ fn frames() -> Vec<(&'static str, Runs)> {
         .words(0x1ffc, &[0x2007])
         .words(0x2ffc, &[0x3007])
         .run(1);
+    let across = Registers { sp: 0x3008, ..open(kernel()) };
+    let half = paged(Registers { sp: 0x3008, ..open(kernel()) }, &[op("TRAP", 0)]);
     let timed = Registers { timer: 3, timeout: 3, ..open(user()) };
     vec![
         ("block fault's pc", bare(block, &[op("MCPY", 0)]).run(1)),
@@ -48,6 +50,31 @@ fn frames() -> Vec<(&'static str, Runs)> {
         ),
         ("second slot refused", bare(at_8, &[op("TRAP", 0)]).bytes(0, &[0xee; 8]).run(1)),
         ("frame over address 0", wraps),
+        ("frame over two pages", paged(across, &[op("TRAP", 0)]).run(1)),
+        ("second slot refused after a walk", half.words(0x2008, &[0x2005]).run(1)),
+        (
+            "frame on a page without U",
+            paged(open(user()), &[op("TRAP", 0)])
+                .words(0x2000, &[3])
+                .entry(0, 0, true, false)
+                .run(1),
+        ),
+        (
+            "RTI from user mode, no stack",
+            bare(open(Registers { sp: 0x1000, ..user() }), &[op("RTI", 0)]).run(1),
+        ),
+        (
+            "PDIR from user mode, beyond",
+            bare(open(Registers { a: 0x1000, ..user() }), &[op("PDIR", 0)]).run(1),
+        ),
+        (
+            "FRPAGE in kernel mode",
+            paged(open(Registers { a: 0x5006, ..kernel() }), &[op("LX", 0)]).run(1),
+        ),
+        (
+            "FRPAGE in user mode",
+            paged(open(Registers { a: 0x5006, ..user() }), &[op("LX", 0)]).run(1),
+        ),
         ("key in user mode", bare(open(user()), &[]).run_keys(1, &[(0, 9)])),
         ("timer in user mode", bare(timed, &[]).run(1)),
     ]

@@ -4,12 +4,12 @@ use crate::machine::Machine;
 use crate::mistake::Mistake;
 use crate::opcodes::decode::{Arith, Source};
 use crate::types::Trap;
-use crate::words::{field, immediate};
+use crate::words::field;
 
 impl Machine {
     /// The operand's access comes before the arithmetic fault.
     pub fn arithmetic(&mut self, arith: Arith, source: Source, word: u32) -> Result<(), Trap> {
-        let imm = immediate(word);
+        let imm = self.imm(word);
         let stack = self.regs.sp.wrapping_add(imm);
         let right = match source {
             Source::Register => self.regs.b,
@@ -27,7 +27,7 @@ impl Machine {
         if matches!(arith, Dvu | Mdu | And | Or | Xor) && self.makes(Mistake::ImmediateUnsigned) {
             return field(word);
         }
-        immediate(word)
+        self.imm(word)
     }
 
     fn compute(&self, arith: Arith, left: u32, right: u32) -> Result<u32, Trap> {

@@ -5,10 +5,12 @@ use crate::machine::Machine;
 use crate::mistake::Mistake;
 use crate::opcodes::decode::Block;
 use crate::types::{Access, Trap};
+use crate::words::extend_byte;
 
 impl Machine {
     pub fn block(&mut self, block: Block) -> Result<(), Trap> {
-        if self.regs.c == 0 {
+        let short = self.regs.c & 0xffff;
+        if self.pick(Mistake::BlockShortCount, short, self.regs.c) == 0 {
             if matches!(block, Block::Mcmp | Block::Mchr) {
                 self.regs.a = 0;
             }
@@ -38,7 +40,8 @@ impl Machine {
         let of_a = self.read(self.regs.a, 1)?;
         if of_b != of_a {
             let (left, right) = self.pick(Mistake::McmpReversed, (of_a, of_b), (of_b, of_a));
-            self.regs.a = left.wrapping_sub(right);
+            let signed = extend_byte(left).wrapping_sub(extend_byte(right));
+            self.regs.a = self.pick(Mistake::McmpSigned, signed, left.wrapping_sub(right));
             self.regs.b = self.regs.b.wrapping_add(self.regs.c);
             self.regs.c = 0;
             return Ok(());
@@ -50,7 +53,8 @@ impl Machine {
 
     fn mchr(&mut self) -> Result<(), Trap> {
         let sought = self.pick(Mistake::MchrWholeB, self.regs.b, self.regs.b & 0xff);
-        if self.read(self.regs.a, 1)? == sought {
+        let byte = self.read(self.regs.a, 1)?;
+        if self.pick(Mistake::MchrSigned, extend_byte(byte), byte) == sought {
             self.regs.c = 0;
         } else {
             self.go_on();

@@ -10,10 +10,11 @@ impl Machine {
     /// Comparisons of a with b; GE and GEU are >=.
     pub fn holds(&self, cond: Cond) -> bool {
         let (a, b) = (self.regs.a, self.regs.b);
+        let asked = self.pick(Mistake::ZeroBranchesAskB, b, a);
         let strict_ge = self.makes(Mistake::GeStrict) && a == b;
         match cond {
-            Cond::Zero => a == 0,
-            Cond::NotZero => a != 0,
+            Cond::Zero => asked == 0,
+            Cond::NotZero => asked != 0,
             Cond::Eq => a == b,
             Cond::Ne => a != b,
             Cond::Lt => (a as i32) < b as i32,

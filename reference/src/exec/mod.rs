@@ -11,15 +11,16 @@ use crate::machine::Machine;
 use crate::mistake::Mistake;
 use crate::opcodes::decode::{decode, Op, Reg, System};
 use crate::types::Trap;
-use crate::words::{field, immediate};
+use crate::words::{extend_half, field, immediate};
 
 impl Machine {
     pub fn execute(&mut self, word: u32) -> Result<(), Trap> {
         let Some(op) = self.decoded(word as u8) else { return Err(Trap::Finst) };
         if self.regs.user && self.is_privileged(op) {
+            self.misread_privilege(op)?;
             return Err(Trap::Fpriv);
         }
-        let imm = immediate(word);
+        let imm = self.imm(word);
         match op {
             Op::Nop => Ok(()),
             Op::Trap => Err(Trap::Fsys),
@@ -46,7 +47,7 @@ impl Machine {
 
     /// The operations that neither reach memory nor fault.
     fn execute_plain(&mut self, op: Op, word: u32) {
-        let imm = immediate(word);
+        let imm = self.imm(word);
         match op {
             Op::LoadImm(reg) => self.set_register(reg, imm),
             Op::LoadHigh(reg) => {
@@ -59,7 +60,7 @@ impl Machine {
             Op::Leag => self.regs.a = self.regs.pc.wrapping_add(imm),
             Op::Cyc => {
                 let count = self.pick(Mistake::CycOldCount, self.regs.count - 1, self.regs.count);
-                self.regs.a = count as u32;
+                self.regs.a = self.pick(Mistake::CycLow31, count as u32 & !(1 << 31), count as u32);
             }
             Op::Compare(cond) => self.regs.a = u32::from(self.holds(cond)),
             Op::Branch(cond) => self.branch(cond, imm),
@@ -71,6 +72,9 @@ impl Machine {
     }
 
     fn decoded(&self, code: u8) -> Option<Op> {
+        if let Some(Mistake::As(byte, other)) = self.mistake {
+            return decode(if code == byte { other } else { code });
+        }
         match code {
             0x99 if self.makes(Mistake::BinIllegal) => None,
             0xb3..=0xbb if self.makes(Mistake::NetworkNops) => Some(Op::Nop),
@@ -80,7 +84,10 @@ impl Machine {
 
     /// The system operations are the sixteen privileged ones.
     fn is_privileged(&self, op: Op) -> bool {
-        let Op::System(system) = op else { return false };
+        if self.makes(Mistake::Open(self.opcode)) {
+            return false;
+        }
+        let Op::System(system) = op else { return self.makes(Mistake::Privileged(self.opcode)) };
         match system {
             System::Ssp => !self.makes(Mistake::SspOpen),
             System::Msiz | System::Lvad | System::Lusp => !self.makes(Mistake::ReadersOpen),
@@ -106,11 +113,40 @@ impl Machine {
 
     /// "sp, usp and ksp, set by any instruction, drop their low three bits".
     pub fn set_sp(&mut self, value: u32) {
-        self.regs.sp = value & !7;
+        self.regs.sp = self.stack(value);
+    }
+
+    pub fn stack(&self, value: u32) -> u32 {
+        self.pick(Mistake::StackKeepsLowBits(self.opcode), value, value & !7)
     }
 
     /// "pc and ivec their low two".
     pub fn set_pc(&mut self, value: u32) {
-        self.regs.pc = value & !3;
+        self.regs.pc = self.target(value);
+    }
+
+    pub fn target(&self, value: u32) -> u32 {
+        self.pick(Mistake::TargetKeepsLowBits(self.opcode), value, value & !3)
+    }
+
+    /// The upper 24 bits, signed.
+    pub fn imm(&self, word: u32) -> u32 {
+        if self.makes(Mistake::ImmediateIsUnsigned(self.opcode)) {
+            return field(word);
+        }
+        let short = extend_half(immediate(word));
+        self.pick(Mistake::ImmediateIsShort(self.opcode), short, immediate(word))
+    }
+
+    /// Planted mistake only: what RTI and PDIR would fault with first.
+    fn misread_privilege(&mut self, op: Op) -> Result<(), Trap> {
+        if !self.makes(Mistake::PrivilegeLast) {
+            return Ok(());
+        }
+        match op {
+            Op::System(System::Rti) => self.read(self.regs.sp, 4).map(|_| ()),
+            Op::System(System::Pdir) if self.regs.a >= self.memory_size() => Err(Trap::Fmem),
+            _ => Ok(()),
+        }
     }
 }

@@ -27,16 +27,19 @@ impl Machine {
                 self.regs.kbchar = self.pick(Mistake::BinKeepsKey, self.regs.kbchar, NO_KEY);
             }
             System::Bout => self.bout(),
-            System::Ssp => self.regs.ksp = self.regs.a & !7,
-            System::Susp => self.regs.usp = self.regs.a & !7,
+            System::Ssp => self.regs.ksp = self.stack(self.regs.a),
+            System::Susp => self.regs.usp = self.stack(self.regs.a),
             System::Lusp => self.regs.a = self.regs.usp,
-            System::Ivec => self.regs.ivec = self.regs.a & !3,
+            System::Ivec => self.regs.ivec = self.target(self.regs.a),
             System::Time => self.time(imm),
             System::Lvad => {
                 self.regs.a = self.regs.vadr;
                 self.regs.vadr = self.pick(Mistake::LvadResets, 0, self.regs.vadr);
             }
-            System::Msiz => self.regs.a = self.memory_size(),
+            System::Msiz => {
+                let pages = self.memory_size() / PAGE;
+                self.regs.a = self.pick(Mistake::MsizInPages, pages, self.memory_size());
+            }
         }
         Ok(())
     }
@@ -49,8 +52,13 @@ impl Machine {
     /// b's low byte appended, a = 1; console full, a = 0xFFFFFFFF.
     fn bout(&mut self) {
         let byte = self.regs.b as u8;
-        if let Some(place) = self.console.get_mut(self.regs.written as usize) {
-            *place = byte;
+        if self.makes(Mistake::BoutWholeB) && self.regs.b > 255 {
+            return;
+        }
+        let first = self.makes(Mistake::BoutAtStart);
+        let written = self.regs.written as usize;
+        if written < self.console.len() {
+            self.console[if first { 0 } else { written }] = byte;
             self.regs.written += 1;
             self.regs.a = 1;
         } else {
@@ -60,6 +68,7 @@ impl Machine {
 
     /// TIME with imm not 0 does nothing; the timer itself is left.
     fn time(&mut self, imm: u32) {
+        let imm = self.pick(Mistake::TimeLowByte, imm & 0xff, imm);
         if imm == 0 || self.makes(Mistake::TimeIgnoresImm) {
             self.regs.timeout = self.regs.a;
             self.regs.timer = self.pick(Mistake::TimeRestartsTimer, 0, self.regs.timer);
@@ -68,7 +77,8 @@ impl Machine {
 
     /// a not below M is FMEM with vadr = a; low twelve bits drop.
     fn set_pdir(&mut self) -> Result<(), Trap> {
-        if self.regs.a >= self.memory_size() {
+        let unaligned = self.regs.a % PAGE != 0 && self.makes(Mistake::PdirAsksAlignment);
+        if self.regs.a >= self.memory_size() || unaligned {
             self.regs.vadr = self.regs.a;
             if self.makes(Mistake::PdirFaultEmpties) {
                 self.empty(Emptied::Pdir);
@@ -76,14 +86,19 @@ impl Machine {
             return Err(Trap::Fmem);
         }
         let old = self.regs.pdir;
-        self.regs.pdir = self.regs.a & !(PAGE - 1);
+        self.regs.pdir = self.pick(Mistake::PdirNextRun, old, self.regs.a & !(PAGE - 1));
         self.empty_after(Emptied::Pdir, old == self.regs.pdir);
         Ok(())
     }
 
     fn set_paging(&mut self) {
         let old = self.regs.paging;
-        self.regs.paging = self.pick(Mistake::SpagLowBit, self.regs.a & 1, self.regs.a) != 0;
+        let asked = match self.mistake {
+            Some(Mistake::SpagLowBit) => self.regs.a & 1,
+            Some(Mistake::SpagLowByte) => self.regs.a & 0xff,
+            _ => self.regs.a,
+        };
+        self.regs.paging = asked != 0;
         self.empty_after(Emptied::Spag, old == self.regs.paging);
     }
 

@@ -1,0 +1,136 @@
+//! Each of the 137 legal opcodes with a near and a far operand, in user mode,
+//! with paging, without rights; each illegal byte; each opcode that can fault.
+
+use super::{bare, kernel, open, paged, user, Named, HANDLER};
+use crate::case::Runs;
+use crate::families::{reads, takes_imm, writes};
+use crate::opcodes::decode::{can_fault_in_kernel, decode, Cond, Op, Source};
+use crate::opcodes::sets::{is_privileged, name_of, ILLEGAL, LEGAL, PRIVILEGED};
+use crate::types::Registers;
+use crate::words::instruction;
+use crate::worked::op;
+
+/// An operand of more than 16 bits, negative and odd.
+pub const FAR: i32 = -0x5_2345;
+/// Where data stands in page 3, for accesses and for sp.
+pub const DATA: u32 = 0x3240;
+
+/// Registers that lead every opcode's access into the pattern.
+fn ready() -> Registers {
+    Registers { a: 0x241, b: 0x253, c: 3, sp: 0x260, kbchar: 5, vadr: 6, ..kernel() }
+}
+
+fn pattern() -> Vec<u8> {
+    (0..96).map(|nth: u32| (nth * 37 + 0x85) as u8).collect()
+}
+
+fn legal_with(holds: fn(Op) -> bool) -> impl Iterator<Item = (u8, Op)> {
+    let decoded = |code: &u8| decode(*code).map(|op| (*code, op));
+    LEGAL.iter().filter_map(decoded).filter(move |(_, op)| holds(*op))
+}
+
+fn named(text: &str, code: u8, runs: Runs) -> Named {
+    (format!("{text} {}", name_of(code)), runs.into())
+}
+
+pub fn cases() -> Vec<Named> {
+    let mut cases = near();
+    cases.extend(every_fault());
+    cases.extend(illegal());
+    cases.extend(legal_with(takes_imm).map(|(code, op)| named("far", code, far(code, op))));
+    for code in LEGAL.iter().filter(|code| !is_privileged(**code)) {
+        cases.push(named("user, paged", *code, in_page_3(*code, 0x3007)));
+    }
+    let memory = legal_with(|op| reads(op) || writes(op));
+    cases.extend(memory.map(|(code, _)| named("without right", code, in_page_3(code, 0x3003))));
+    cases
+}
+
+/// Every legal opcode with a small operand, every privileged one from user
+/// mode.
+fn near() -> Vec<Named> {
+    let one = |regs: Registers, code: u8| {
+        bare(regs, &[instruction(code, 12)]).bytes(0x230, &pattern()).console(&[9; 2]).run(1)
+    };
+    let mut cases: Vec<Named> = Vec::new();
+    for code in LEGAL.iter() {
+        cases.push(named("opcode", *code, one(ready(), *code)));
+    }
+    for code in PRIVILEGED.iter() {
+        let regs = Registers { user: true, ..open(ready()) };
+        cases.push(named("user", *code, one(regs, *code)));
+    }
+    cases
+}
+
+/// The illegal bytes in a row, in both modes; the handler adds up the codes.
+fn illegal() -> Vec<Named> {
+    let mut cases: Vec<Named> = Vec::new();
+    for (mode, regs) in [("kernel", kernel()), ("user", user())] {
+        for (nth, codes) in ILLEGAL.chunks(60).enumerate() {
+            let words: Vec<u32> = codes.iter().map(|code| instruction(*code, 0x77)).collect();
+            let runs = bare(open(regs.clone()), &words);
+            let runs = runs.words(HANDLER, &[op("ADDL", 0), op("RTI", 0)]);
+            let steps = 3 * codes.len() as u64;
+            cases.push((format!("illegal {nth}, {mode}"), runs.run(steps).into()));
+        }
+    }
+    cases
+}
+
+/// In user mode, with a, b and sp such that every legal opcode that can fault
+/// does; the handler returns to the next.
+fn every_fault() -> Vec<Named> {
+    let codes: Vec<u8> = legal_with(can_fault_in_kernel).map(|(code, _)| code).collect();
+    let regs = Registers { a: 0xffff_0000, c: 3, sp: 0x1000_0000, ..open(user()) };
+    let regs = Registers { usp: regs.sp, ..regs };
+    let mut cases = Vec::new();
+    for (nth, codes) in codes.chunks(48).enumerate() {
+        let words: Vec<u32> = codes.iter().map(|code| instruction(*code, beyond(*code))).collect();
+        let mut runs = bare(regs.clone(), &words).words(HANDLER, &[op("RTI", 0)]);
+        for _ in codes {
+            runs = runs.run(2);
+        }
+        cases.push((format!("faults {nth}"), runs.into()));
+    }
+    cases
+}
+
+/// An operand beyond memory, or 0 to divide by.
+fn beyond(code: u8) -> u32 {
+    match decode(code) {
+        Some(Op::Arith(_, Source::Immediate)) => 0,
+        _ => 0x7f_f000,
+    }
+}
+
+/// With a far operand: what reaches memory by it faults, branches are taken.
+fn far(code: u8, op: Op) -> Runs {
+    let (a, b) = match op {
+        Op::Branch(Cond::Eq) => (5, 5),
+        Op::Branch(Cond::Zero | Cond::Lt | Cond::Ltu) => (0, 1),
+        Op::Branch(_) => (9, 5),
+        _ => (0x4001_0240, 0x250),
+    };
+    let regs = Registers { a, b, sp: 0x260, ..kernel() };
+    bare(regs, &[instruction(code, FAR as u32)]).bytes(0x230, &pattern()).run(1)
+}
+
+/// In user mode with paging; what reaches memory does so in page 3, whose word
+/// is given. A fault is delivered.
+fn in_page_3(code: u8, word: u32) -> Runs {
+    let addresses = Registers { a: DATA, b: DATA + 0x20, c: 3, sp: DATA + 0x40, ..user() };
+    let imm = match decode(code) {
+        Some(op) if by_pc(op) => DATA - 0x104,
+        _ => 4,
+    };
+    paged(open(addresses), &[instruction(code, imm)])
+        .words(0x200c, &[word])
+        .bytes(DATA as usize, &pattern())
+        .run(1)
+}
+
+fn by_pc(op: Op) -> bool {
+    use crate::opcodes::decode::Base::Pc;
+    matches!(op, Op::Load(_, Pc, _) | Op::Store(Pc, _))
+}

@@ -1,0 +1,189 @@
+//! Families of planted mistakes: one for each opcode, refusal, trap, bit or
+//! field that a slip could be made in.
+
+use crate::mistake::Mistake;
+use crate::opcodes::decode::{can_fault_in_kernel, decode, Arith, Op, Source, System};
+use crate::opcodes::sets::{is_privileged, ILLEGAL, LEGAL, PRIVILEGED};
+
+/// Mistakes of one kind.
+pub struct Family {
+    /// What the planted machine does, with the family's numbers in brackets.
+    pub text: &'static str,
+    pub members: Vec<Mistake>,
+}
+
+fn family(text: &'static str, members: impl IntoIterator<Item = Mistake>) -> Family {
+    Family { text, members: members.into_iter().collect() }
+}
+
+/// A mistake for each legal opcode of which something holds.
+fn by_opcode(text: &'static str, holds: fn(Op) -> bool, mistake: fn(u8) -> Mistake) -> Family {
+    let codes = LEGAL.iter().filter(|code| decode(**code).is_some_and(holds));
+    family(text, codes.map(|code| mistake(*code)))
+}
+
+pub fn families() -> Vec<Family> {
+    [opcodes(), operands(), accesses(), numbers()].into_iter().flatten().collect()
+}
+
+fn opcodes() -> Vec<Family> {
+    let others = |code: u8| LEGAL.iter().map(move |other| (code, *other));
+    let unequal = |(code, other): (u8, u8)| (code != other).then_some(Mistake::As(code, other));
+    let closed = LEGAL.iter().filter(|code| !is_privileged(**code));
+    vec![
+        family(
+            "legal opcode [0] is executed as [1]",
+            LEGAL.iter().flat_map(|code| others(*code)).filter_map(unequal),
+        ),
+        family(
+            "illegal byte [0] is executed as [1]",
+            ILLEGAL.iter().flat_map(|code| others(*code)).filter_map(unequal),
+        ),
+        family("opcode [0] is illegal", LEGAL.iter().map(|code| Mistake::As(*code, 0xff))),
+        family("opcode [0] is privileged", closed.map(|code| Mistake::Privileged(*code))),
+        family("opcode [0] is open", PRIVILEGED.iter().map(|code| Mistake::Open(*code))),
+    ]
+}
+
+/// Whether the operation takes a number from its upper 24 bits. LHI and LBHI
+/// take the field; TIME asks only whether it is 0; a shift count's upper bits
+/// mean nothing.
+pub fn takes_imm(op: Op) -> bool {
+    match op {
+        Op::Load(..) | Op::Store(..) | Op::LoadImm(_) | Op::Branch(_) => true,
+        Op::Ent | Op::Lev | Op::Jmp | Op::Jmpi | Op::Jsr | Op::Lea | Op::Leag | Op::Pshi => true,
+        Op::Arith(Arith::Shl | Arith::Shr | Arith::Sru, source) => source == Source::Stack,
+        Op::Arith(_, source) => source != Source::Register,
+        _ => false,
+    }
+}
+
+fn sets_target(op: Op) -> bool {
+    match op {
+        Op::Branch(_) | Op::Jmp | Op::Jmpi | Op::Jsr | Op::Jsra | Op::Lev => true,
+        Op::System(system) => matches!(system, System::Rti | System::Ivec),
+        _ => false,
+    }
+}
+
+fn sets_stack(op: Op) -> bool {
+    match op {
+        Op::Ent | Op::Lev => true,
+        Op::System(system) => matches!(system, System::Ssp | System::Susp),
+        _ => false,
+    }
+}
+
+fn operands() -> Vec<Family> {
+    use Mistake::{ImmediateIsShort, ImmediateIsUnsigned, StackKeepsLowBits, TargetKeepsLowBits};
+    vec![
+        by_opcode("opcode [0] takes imm as an unsigned number", takes_imm, ImmediateIsUnsigned),
+        by_opcode("opcode [0] takes imm's low 16 bits, signed", takes_imm, ImmediateIsShort),
+        by_opcode("opcode [0] keeps a target's low bits", sets_target, TargetKeepsLowBits),
+        by_opcode("opcode [0] keeps a stack's low bits", sets_stack, StackKeepsLowBits),
+    ]
+}
+
+/// RTI is out: it can't be made in user mode, and its address has no low bits.
+pub fn reads(op: Op) -> bool {
+    match op {
+        Op::Load(..) | Op::Pop(_) | Op::Lev => true,
+        Op::Arith(_, source) => source == Source::Stack,
+        Op::Block(block) => format!("{block:?}") != "Mset",
+        _ => false,
+    }
+}
+
+pub fn writes(op: Op) -> bool {
+    match op {
+        Op::Store(..) | Op::Push(_) | Op::Pshi | Op::Jsr | Op::Jsra => true,
+        Op::Block(block) => matches!(format!("{block:?}").as_str(), "Mcpy" | "Mset"),
+        _ => false,
+    }
+}
+
+/// Whether low bits of an address can drop: bytes have none, nor has sp.
+fn drops_bits(op: Op) -> bool {
+    use crate::opcodes::decode::Width::{Byte, SignedByte};
+    match op {
+        Op::Load(_, _, width) | Op::Store(_, width) => !matches!(width, Byte | SignedByte),
+        Op::Arith(_, source) => source == Source::Stack,
+        _ => false,
+    }
+}
+
+fn accesses() -> Vec<Family> {
+    use Mistake::{AsKernel, FaultOwnPc, ReadsAsWrite, VadrDropped, WritesAsRead};
+    let either = |op: Op| reads(op) || writes(op);
+    vec![
+        by_opcode("opcode [0] keeps vadr after low bits drop", drops_bits, VadrDropped),
+        by_opcode("opcode [0] reads as if it wrote", reads, ReadsAsWrite),
+        by_opcode("opcode [0] writes as if it read", writes, WritesAsRead),
+        by_opcode("opcode [0] reaches memory as the kernel", either, AsKernel),
+        by_opcode("opcode [0]'s fault stores its own address", can_fault_in_kernel, FaultOwnPc),
+    ]
+}
+
+/// All i < j of a list.
+fn pairs(numbers: &[u32]) -> Vec<Mistake> {
+    let from = |at: usize| numbers[at + 1..].iter().map(move |high| (numbers[at], *high));
+    (0..numbers.len()).flat_map(from).map(|(low, high)| Mistake::Order(low, high)).collect()
+}
+
+fn numbers() -> Vec<Family> {
+    let codes = (0..10).flat_map(|code| [(code, false), (code, true)]);
+    // FPRIV comes from user mode only.
+    let codes = codes.filter(|code| *code != (3, false));
+    // A file too short for a header has no body, data start or entry.
+    let judged = |mistake: &Mistake| !matches!(mistake, Mistake::Order(7, 9..));
+    let load_pairs = pairs(&[1, 7, 8, 9, 10, 11]).into_iter().filter(judged);
+    vec![
+        family("of a run's refusals [1] is given before [0]", pairs(&[1, 2, 3, 4, 5, 6])),
+        family("of a load's refusals [1] is given before [0]", load_pairs),
+        family(
+            "trap [0] has the next code (user mode: [1])",
+            codes.map(|(code, user)| Mistake::TrapCode(code, user)),
+        ),
+        family("a walk leaves bit [0] of the page out", (0..20).map(Mistake::WalkDropsBit)),
+        family("the buffer leaves bit [0] of the page out", (0..20).map(Mistake::HitDropsBit)),
+        family("a walk leaves bit [0] of the frame out", (0..20).map(Mistake::FrameDropsBit)),
+        family("byte [0] of the magic is not compared", (0..4).map(Mistake::MagicByte)),
+        family(
+            "pc, ivec, sp, usp, ksp, pdir ([0]): half of what it must be a multiple of",
+            (0..6).map(Mistake::LooseField),
+        ),
+        family(
+            "pc, ivec, sp, usp, ksp, step count ([0]) is not judged",
+            (0..6).map(Mistake::UnjudgedField),
+        ),
+    ]
+}
+
+/// The opcode bytes that a mistake is about; it shows only where one is executed.
+pub fn opcode_of(mistake: Mistake) -> Option<u8> {
+    use Mistake::*;
+    match mistake {
+        As(code, _) | Privileged(code) | Open(code) => Some(code),
+        ImmediateIsUnsigned(code) | ImmediateIsShort(code) => Some(code),
+        TargetKeepsLowBits(code) | StackKeepsLowBits(code) | VadrDropped(code) => Some(code),
+        ReadsAsWrite(code) | WritesAsRead(code) | AsKernel(code) | FaultOwnPc(code) => Some(code),
+        _ => None,
+    }
+}
+
+#[cfg(test)]
+mod tests {
+    use super::*;
+    use crate::opcodes::sets::is_legal;
+
+    #[test]
+    fn members_are_about_legal_opcodes_where_they_should_be() {
+        for family in families() {
+            assert!(!family.members.is_empty(), "{}", family.text);
+            for mistake in family.members {
+                let Some(code) = opcode_of(mistake) else { continue };
+                assert!(is_legal(code) || matches!(mistake, Mistake::As(..)), "{mistake:?}");
+            }
+        }
+    }
+}
