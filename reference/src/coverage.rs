@@ -3,7 +3,8 @@
 
 use crate::opcodes::decode::{can_fault_in_kernel, decode};
 use crate::opcodes::sets::{is_legal, is_privileged, name_of};
-use crate::types::{Access, Stop, Trap};
+use crate::types::{Access, Registers, Stop, Trap};
+use std::fmt::Arguments;
 
 /// Who made a store: an instruction or a trap frame.
 #[derive(Clone, Copy, Debug, PartialEq, Eq)]
@@ -20,18 +21,33 @@ pub enum Emptied {
     Spag = 2,
 }
 
+/// Whether a count must be above zero.
+#[derive(Clone, Copy, Debug, PartialEq, Eq, PartialOrd)]
+pub enum Due {
+    /// It need not or can't be.
+    Never = 0,
+    /// In runs by the ten thousand.
+    InBulk = 1,
+    Always = 2,
+}
+
 /// Counts by access (fetch, read, write) and mode (kernel, user).
 type ByAccess = [[u64; 2]; 3];
+/// Counts by mode, paging (off, on) and end (completed, faulted).
+type BySetting = [[[u64; 2]; 2]; 2];
 
 #[derive(Clone, Debug)]
 pub struct Coverage {
     pub runs: u64,
+    pub loads: u64,
     pub steps: u64,
-    pub completed: [u64; 256],
-    pub faulted: [u64; 256],
+    /// Executed instructions by opcode.
+    pub opcodes: [BySetting; 256],
     pub hits: ByAccess,
     pub walks_kept: ByAccess,
     pub walks_faulted: ByAccess,
+    /// Steps by their number of walks.
+    pub walks: [u64; 6],
     pub added: u64,
     pub replaced: u64,
     pub emptied: [u64; 3],
@@ -39,28 +55,35 @@ pub struct Coverage {
     pub traps: [[u64; 2]; 10],
     /// Ends of accepted runs, by stop reason.
     pub stops: [u64; 4],
-    pub answers: [u64; 12],
+    /// Answers of runs, and of loads.
+    pub answers: [u64; 7],
+    pub load_answers: [u64; 12],
     /// Stores of demand 3's kind, by storer.
     pub held_stores: [u64; 2],
+    /// Walks of the step so far.
+    walks_now: usize,
 }
 
 impl Default for Coverage {
     fn default() -> Self {
         Coverage {
             runs: 0,
+            loads: 0,
             steps: 0,
-            completed: [0; 256],
-            faulted: [0; 256],
+            opcodes: [[[[0; 2]; 2]; 2]; 256],
             hits: [[0; 2]; 3],
             walks_kept: [[0; 2]; 3],
             walks_faulted: [[0; 2]; 3],
+            walks: [0; 6],
             added: 0,
             replaced: 0,
             emptied: [0; 3],
             traps: [[0; 2]; 10],
             stops: [0; 4],
-            answers: [0; 12],
+            answers: [0; 7],
+            load_answers: [0; 12],
             held_stores: [0; 2],
+            walks_now: 0,
         }
     }
 }
@@ -71,22 +94,37 @@ fn sum(mine: &mut [u64], theirs: &[u64]) {
 
 const ACCESSES: [&str; 3] = ["fetch", "read", "write"];
 const MODES: [&str; 2] = ["kernel", "user"];
+const PAGING: [&str; 2] = ["paging off", "paging on"];
+const ENDS: [&str; 2] = ["completed", "faulted"];
 const STOPS: [&str; 4] = ["running", "halted", "trap masked", "no frame"];
 const STORERS: [&str; 2] = ["instructions", "frames"];
 const EMPTIERS: [&str; 3] = ["64 held", "PDIR", "SPAG"];
 
+/// Counting.
 impl Coverage {
     pub fn hit(&mut self, access: Access, user: bool) {
         self.hits[access as usize][usize::from(user)] += 1;
     }
 
     pub fn walk(&mut self, access: Access, user: bool, kept: bool) {
+        self.walks_now += 1;
         let counts = if kept { &mut self.walks_kept } else { &mut self.walks_faulted };
         counts[access as usize][usize::from(user)] += 1;
     }
 
     pub fn trap(&mut self, trap: Trap, user: bool) {
         self.traps[trap as usize][usize::from(user)] += 1;
+    }
+
+    /// An instruction, from the registers it was fetched with.
+    pub fn executed(&mut self, code: u8, regs: &Registers, faulted: bool) {
+        let [mode, paging, end] = [regs.user, regs.paging, faulted].map(usize::from);
+        self.opcodes[usize::from(code)][mode][paging][end] += 1;
+    }
+
+    pub fn step(&mut self) {
+        self.walks[self.walks_now] += 1;
+        self.walks_now = 0;
     }
 
     pub fn end(&mut self, answer: u32, steps: u64, stop: Stop) {
@@ -98,95 +136,154 @@ impl Coverage {
         }
     }
 
+    pub fn load(&mut self, answer: u32) {
+        self.loads += 1;
+        self.load_answers[answer as usize] += 1;
+    }
+
     pub fn add(&mut self, other: &Coverage) {
         self.runs += other.runs;
+        self.loads += other.loads;
         self.steps += other.steps;
         self.added += other.added;
         self.replaced += other.replaced;
-        sum(&mut self.completed, &other.completed);
-        sum(&mut self.faulted, &other.faulted);
+        let (mine, theirs) = (self.opcodes.as_flattened_mut(), other.opcodes.as_flattened());
+        sum(mine.as_flattened_mut().as_flattened_mut(), theirs.as_flattened().as_flattened());
         sum(self.hits.as_flattened_mut(), other.hits.as_flattened());
         sum(self.walks_kept.as_flattened_mut(), other.walks_kept.as_flattened());
         sum(self.walks_faulted.as_flattened_mut(), other.walks_faulted.as_flattened());
+        sum(&mut self.walks, &other.walks);
         sum(&mut self.emptied, &other.emptied);
         sum(self.traps.as_flattened_mut(), other.traps.as_flattened());
         sum(&mut self.stops, &other.stops);
         sum(&mut self.answers, &other.answers);
+        sum(&mut self.load_answers, &other.load_answers);
         sum(&mut self.held_stores, &other.held_stores);
     }
+}
 
-    /// The kinds a machine with a buffer must reach and these runs did not.
-    /// Answer 3 can't come from an empty buffer, and loads are no runs, so
-    /// answers are asked for by name.
-    pub fn missing(&mut self, answers: &[u32]) -> Vec<String> {
+/// Telling.
+impl Coverage {
+    /// How often an opcode ended so.
+    pub fn ended(&self, code: u8, faulted: bool) -> u64 {
+        let settings = self.opcodes[usize::from(code)].as_flattened();
+        settings.iter().map(|ends| ends[usize::from(faulted)]).sum()
+    }
+
+    /// The kinds that must be reached, those in bulk too if asked for, and were
+    /// not. Answer 3 can't come from an empty buffer, so that answers of runs
+    /// are asked for by number.
+    pub fn missing(&self, due_from: Due, answers: &[usize]) -> Vec<String> {
         let mut missing = Vec::new();
         self.each(|name, count, due| {
-            if due && *count == 0 {
+            if count == 0 && due >= due_from {
                 missing.push(name.to_string());
             }
         });
-        for answer in answers {
-            if self.answers[*answer as usize] == 0 {
-                missing.push(format!("answer {answer}"));
-            }
-        }
+        let unanswered = answers.iter().filter(|answer| self.answers[**answer] == 0);
+        missing.extend(unanswered.map(|answer| format!("answer {answer} of a run")));
+        missing
+    }
+
+    /// How many kinds that must be reached were not.
+    pub fn missing_count(&self) -> usize {
+        let mut missing = 0;
+        self.each(|_, count, due| missing += usize::from(count == 0 && due == Due::Always));
         missing
     }
 
     /// All counts above zero, one a line.
-    pub fn report(&mut self) -> String {
+    pub fn report(&self) -> String {
         let mut text = String::new();
         self.each(|name, count, _| {
-            if *count > 0 {
+            if count > 0 {
                 text += &format!("{count:>12}  {name}\n");
             }
         });
         text
     }
 
-    /// Visits every count with its name and whether it can come at all.
-    fn each(&mut self, mut visit: impl FnMut(&str, &mut u64, bool)) {
-        visit("runs", &mut self.runs, true);
-        visit("steps", &mut self.steps, true);
-        self.each_opcode(&mut visit);
-        for (at, access) in ACCESSES.iter().enumerate() {
-            for (by, mode) in MODES.iter().enumerate() {
-                let kind = format!("{mode} {access}");
-                visit(&format!("hit, {kind}"), &mut self.hits[at][by], true);
-                visit(&format!("walk kept, {kind}"), &mut self.walks_kept[at][by], true);
-                visit(&format!("walk faulted, {kind}"), &mut self.walks_faulted[at][by], true);
-            }
+    /// All counts, one a line, to be added up: count, due, name, tabs between.
+    pub fn table(&self) -> String {
+        let mut text = String::new();
+        self.each(|name, count, due| text += &format!("{count}\t{}\t{name}\n", due as u32));
+        text
+    }
+
+    /// Visits every count with its name and whether it must come.
+    fn each(&self, mut visit: impl FnMut(Arguments, u64, Due)) {
+        visit(format_args!("runs"), self.runs, Due::Always);
+        visit(format_args!("loads"), self.loads, Due::InBulk);
+        visit(format_args!("steps"), self.steps, Due::Always);
+        for code in 0..=255 {
+            self.each_end(code, &mut visit);
         }
-        visit("entry added", &mut self.added, true);
-        visit("entry replaced", &mut self.replaced, true);
-        for (count, name) in self.emptied.iter_mut().zip(EMPTIERS) {
-            visit(&format!("buffer emptied, {name}"), count, true);
+        self.each_translation(&mut visit);
+        for (code, counts) in self.traps.iter().enumerate() {
+            let kernel = if code == Trap::Fpriv as usize { Due::Never } else { Due::Always };
+            visit(format_args!("trap {code}"), counts[0], kernel);
+            visit(format_args!("trap {}", code + 16), counts[1], Due::Always);
         }
-        for (code, counts) in self.traps.iter_mut().enumerate() {
-            let kernel_can = code != Trap::Fpriv as usize;
-            visit(&format!("trap {code}"), &mut counts[0], kernel_can);
-            visit(&format!("trap {}", code + 16), &mut counts[1], true);
+        for (count, name) in self.stops.iter().zip(STOPS) {
+            visit(format_args!("run ended, {name}"), *count, Due::Always);
         }
-        for (count, name) in self.stops.iter_mut().zip(STOPS) {
-            visit(&format!("run ended, {name}"), count, true);
+        for (answer, count) in self.answers.iter().enumerate() {
+            visit(format_args!("run answered {answer}"), *count, Due::InBulk);
         }
-        for (answer, count) in self.answers.iter_mut().enumerate() {
-            visit(&format!("answer {answer}"), count, false);
+        for (answer, count) in self.load_answers.iter().enumerate() {
+            let due = if (2..7).contains(&answer) { Due::Never } else { Due::InBulk };
+            visit(format_args!("load answered {answer}"), *count, due);
         }
-        for (count, name) in self.held_stores.iter_mut().zip(STORERS) {
-            visit(&format!("stores of demand 3's kind by {name}"), count, true);
+        for (count, name) in self.held_stores.iter().zip(STORERS) {
+            let name = format_args!("stores of demand 3's kind by {name}");
+            visit(name, *count, Due::Always);
         }
     }
 
-    fn each_opcode(&mut self, visit: &mut impl FnMut(&str, &mut u64, bool)) {
-        for code in 0..=255u8 {
-            let at = usize::from(code);
-            let name = format!("{code:02x} {}", name_of(code));
-            // TRAP never completes: it always traps or stops.
-            let completes = is_legal(code) && name_of(code) != "TRAP";
-            visit(&format!("{name} completed"), &mut self.completed[at], completes);
-            let faults = decode(code).is_none_or(can_fault_in_kernel) || is_privileged(code);
-            visit(&format!("{name} faulted"), &mut self.faulted[at], faults);
+    /// Hits, walks and entries.
+    fn each_translation(&self, visit: &mut impl FnMut(Arguments, u64, Due)) {
+        for (at, access) in ACCESSES.iter().enumerate() {
+            for (by, mode) in MODES.iter().enumerate() {
+                visit(format_args!("hit, {mode} {access}"), self.hits[at][by], Due::Always);
+                let (kept, faulted) = (self.walks_kept[at][by], self.walks_faulted[at][by]);
+                visit(format_args!("walk kept, {mode} {access}"), kept, Due::Always);
+                visit(format_args!("walk faulted, {mode} {access}"), faulted, Due::Always);
+            }
         }
+        for (walks, count) in self.walks.iter().enumerate() {
+            visit(format_args!("steps with {walks} walks"), *count, Due::InBulk);
+        }
+        visit(format_args!("entry added"), self.added, Due::Always);
+        visit(format_args!("entry replaced"), self.replaced, Due::Always);
+        for (count, name) in self.emptied.iter().zip(EMPTIERS) {
+            visit(format_args!("buffer emptied, {name}"), *count, Due::Always);
+        }
+    }
+
+    /// How an opcode ended, at all and by setting.
+    fn each_end(&self, code: u8, visit: &mut impl FnMut(Arguments, u64, Due)) {
+        let name = name_of(code);
+        for (at, end) in ENDS.iter().enumerate() {
+            let comes = |user: bool| comes(code, user, at == 1);
+            let due = if comes(false) || comes(true) { Due::Always } else { Due::Never };
+            visit(format_args!("{code:02x} {name} {end}"), self.ended(code, at == 1), due);
+            for (by, mode) in MODES.iter().enumerate() {
+                let due = if comes(by == 1) { Due::InBulk } else { Due::Never };
+                for (on, paging) in PAGING.iter().enumerate() {
+                    let count = self.opcodes[usize::from(code)][by][on][at];
+                    visit(format_args!("{code:02x} {name}, {mode}, {paging}, {end}"), count, due);
+                }
+            }
+        }
+    }
+}
+
+/// Whether an opcode can complete, or fault, in a mode. TRAP never completes.
+fn comes(code: u8, user: bool, faulted: bool) -> bool {
+    let closed = user && is_privileged(code);
+    if faulted {
+        closed || decode(code).is_none_or(can_fault_in_kernel)
+    } else {
+        is_legal(code) && name_of(code) != "TRAP" && !closed
     }
 }

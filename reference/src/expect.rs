@@ -52,7 +52,7 @@ fn play_load(case: &Load, mistake: Option<Mistake>) -> Played {
     let mut memory = vec![case.fill; case.memory_length];
     let (answer, record) = load_with(&mut memory, &case.file, mistake);
     let mut coverage = Coverage::default();
-    coverage.answers[answer as usize] += 1;
+    coverage.load(answer);
     Played { shown: vec![show(Outcome { answer, steps: 0 }, &record, &memory, &[])], coverage }
 }
 

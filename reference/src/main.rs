@@ -3,9 +3,10 @@
 use reference::broken::streams;
 use reference::case::decode::{read_all, Broken};
 use reference::case::encode::encode;
+use reference::case::numbers::NAMES;
 use reference::case::Case;
 use reference::compare::{compare, Question, Verdict};
-use reference::coverage::Coverage;
+use reference::coverage::{Coverage, Due};
 use reference::expect::{expect, play};
 use reference::families::families;
 use reference::line::line;
@@ -15,6 +16,7 @@ use reference::mutants::Judge;
 use reference::random::executables::random_file;
 use reference::random::scene::{case, Purpose};
 use reference::stored::stored_set;
+use std::fs;
 use std::io::{self, BufWriter, Read, Write};
 use std::ops::Range;
 use std::process::ExitCode;
@@ -22,7 +24,8 @@ use std::process::ExitCode;
 const USAGE: &str = "usage:
   reference write-cases [--seed S] [--first F] [--count N]
                                                 random cases, in FORMAT.md's bytes
-  reference expect < cases                      what must come out of each case
+  reference expect [--coverage FILE] < cases    what must come out of each case
+  reference fields                              the names of a line's fields
   reference coverage < cases                    what the cases cover, counted
   reference compare [--seed S] [--first F] [--count N]
                                                 both machines over random runs
@@ -57,7 +60,8 @@ fn command(words: &[String]) -> Done {
     let numbers = first..first.saturating_add(count);
     match name.as_str() {
         "write-cases" => write_all(numbers.map(|number| case(seed, number, Purpose::Any))),
-        "expect" => print_expected(),
+        "expect" => print_expected(options),
+        "fields" => print_fields(),
         "coverage" => print_coverage(),
         "compare" => print_comparison(seed, numbers),
         "write-stored" => write_all(stored_set().into_iter()),
@@ -95,10 +99,22 @@ fn read_cases() -> Result<Vec<Case>, String> {
     read_all(&input()?).map_err(broken)
 }
 
-fn print_expected() -> Done {
+fn print_expected(options: &[String]) -> Done {
     let mut output = BufWriter::new(io::stdout().lock());
-    expect(&input()?, &mut output).map_err(text)?;
-    output.flush().map_err(text)
+    let coverage = expect(&input()?, &mut output).map_err(text)?;
+    output.flush().map_err(text)?;
+    match options {
+        [] => Ok(()),
+        [option, file] if option == "--coverage" => fs::write(file, coverage.table()).map_err(text),
+        _ => Err(USAGE.to_string()),
+    }
+}
+
+/// The names of a line's fields up to the page buffer's entries.
+fn print_fields() -> Done {
+    let first = ["case", "run", "answer", "reported steps", "keys taken", "console bytes", "N"];
+    println!("{},{},buffer count", first.join(","), NAMES.join(","));
+    Ok(())
 }
 
 fn print_coverage() -> Done {
@@ -106,9 +122,8 @@ fn print_coverage() -> Done {
     for case in read_cases()? {
         coverage.add(&play(&case, None).coverage);
     }
-    let answers: Vec<u32> = (0..12).collect();
     print!("{}", coverage.report());
-    println!("missing: {:?}", coverage.missing(&answers));
+    println!("missing: {:?}", coverage.missing(Due::InBulk, &[]));
     Ok(())
 }
 
@@ -125,7 +140,7 @@ fn print_comparison(seed: u64, numbers: Range<u64>) -> Done {
         }
     }
     print!("{}", coverage.report());
-    println!("missing: {:?}", coverage.missing(&[0, 1, 2, 4, 5, 6]));
+    println!("missing: {:?}", coverage.missing(Due::Always, &[0, 1, 2, 4, 5, 6]));
     println!("{count} lists, {ended} of them ended at a store of demand 3's kind");
     Ok(())
 }

@@ -22,12 +22,12 @@ impl<'a> Judge<'a> {
         let cost = |number: &usize| played[*number].coverage.steps + cases[*number].bytes() / 256;
         let mut by_cost: Vec<usize> = (0..cases.len()).collect();
         by_cost.sort_by_key(cost);
-        let executes = |number: &usize, code: usize| {
+        let executes = |number: &usize, code: u8| {
             let coverage = &played[*number].coverage;
-            coverage.completed[code] + coverage.faulted[code] > 0
+            coverage.ended(code, false) + coverage.ended(code, true) > 0
         };
         let with = |code| by_cost.iter().copied().filter(|number| executes(number, code)).collect();
-        let executing = (0..256).map(with).collect();
+        let executing = (0..=255).map(with).collect();
         let shown = played.into_iter().map(|played| played.shown).collect();
         Judge { cases, shown, by_cost, executing }
     }

@@ -17,6 +17,7 @@ impl Machine {
             self.instruction();
         }
         self.misread_stop(&start);
+        self.coverage.step();
     }
 
     /// Fetch at pc; pc moves 4 on; execute. A faulting instruction leaves the
@@ -32,13 +33,12 @@ impl Machine {
             }
         };
         self.opcode = word as u8;
-        let code = usize::from(self.opcode);
         self.regs.pc = next;
         let Err(trap) = self.execute(word) else {
-            self.coverage.completed[code] += 1;
+            self.coverage.executed(self.opcode, &before, false);
             return;
         };
-        self.coverage.faulted[code] += 1;
+        self.coverage.executed(self.opcode, &before, true);
         let vadr = self.regs.vadr;
         let sp = self.pick(Mistake::FaultedPushKeepsSp, self.regs.sp, before.sp);
         let own_pc = self.misread_return(trap, word);

@@ -39,10 +39,10 @@ impl Chosen {
     /// Whether the case reaches something new or tells a mistake apart that
     /// too few have told.
     fn wants(&mut self, case: &Case, played: &Played) -> bool {
-        let before = self.coverage.missing(&[]).len();
+        let before = self.coverage.missing_count();
         let mut with = self.coverage.clone();
         with.add(&played.coverage);
-        with.missing(&[]).len() < before
+        with.missing_count() < before
             || self.told.iter().zip(Mistake::ALL).any(|(count, mistake)| {
                 *count < TELLING && play(case, Some(*mistake)).shown != played.shown
             })

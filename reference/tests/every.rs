@@ -91,7 +91,7 @@ fn every_opcode_that_can_fault_does() {
         let after = after(&format!("faults {nth}"));
         assert_eq!(after.regs().pc, 0x100 + 4 * codes.len() as u32);
         for code in codes {
-            assert_eq!(after.machine.coverage.faulted[usize::from(*code)], 1);
+            assert_eq!(after.machine.coverage.ended(*code, true), 1);
         }
     }
 }

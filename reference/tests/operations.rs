@@ -72,6 +72,7 @@ fn jumps() {
     // 0x104 + 0x12 + 0x11
     assert_eq!(after("JMPI drops low bits").regs().pc, 0x124);
     assert_eq!(after("JMP drops low bits").regs().pc, 0x124);
+    assert_eq!(after("NOP with an operand").regs().pc, 0x104);
     let far_call = after("JSR drops low bits");
     assert_eq!((far_call.regs().pc, far_call.word(0xef8)), (0x124, 0x104));
     assert_eq!(after("JMPI by a negative a").regs().pc, 0x2000_00fc);

@@ -4,7 +4,7 @@
 use reference::case::decode::read_all;
 use reference::case::encode::encode;
 use reference::case::{Case, Runs};
-use reference::coverage::Coverage;
+use reference::coverage::{Coverage, Due};
 use reference::expect::play;
 use reference::random::scene::{case, Purpose};
 use reference::types::{MAX_BUDGET, PAGE};
@@ -36,8 +36,9 @@ fn all_answers_and_kinds_are_reached() {
     for case in CASES.iter() {
         coverage.add(&play(case, None).coverage);
     }
-    let answers: Vec<u32> = (0..12).collect();
-    assert_eq!(coverage.missing(&answers), [""; 0]);
+    let missing = coverage.missing(Due::InBulk, &[]);
+    let missing: Vec<_> = missing.iter().filter(|kind| !kind.contains(", paging ")).collect();
+    assert_eq!(missing, [""; 0]);
     assert!(coverage.steps > 500_000, "{} steps", coverage.steps);
 }
 

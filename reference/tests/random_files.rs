@@ -1,7 +1,7 @@
 //! The random executables: the same again, rich enough, and written by the
 //! commands as they are.
 
-use reference::coverage::Coverage;
+use reference::coverage::{Coverage, Due};
 use reference::line::{line, BUDGET, CONSOLE, MEMORY};
 use reference::load::{load, HEADER, MAGIC};
 use reference::machine::Machine;
@@ -52,7 +52,7 @@ fn accepted_ones_reach_traps_paging_and_a_full_console() {
         full += usize::from(machine.regs.written == CONSOLE as u64);
     }
     // Without keys there is no FKEYBD; a few opcodes may not have faulted.
-    let missing = coverage.missing(&[]);
+    let missing = coverage.missing(Due::Always, &[]);
     let missing: Vec<_> = missing.iter().filter(|kind| !kind.ends_with("faulted")).collect();
     assert_eq!(missing, ["trap 2", "trap 18"]);
     assert!(full > 20, "{full}");

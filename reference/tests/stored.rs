@@ -3,7 +3,7 @@
 
 use reference::case::decode::read_all;
 use reference::case::Case;
-use reference::coverage::Coverage;
+use reference::coverage::{Coverage, Due};
 use reference::directed::all;
 use reference::expect::{expect, play};
 use reference::families::families;
@@ -42,16 +42,21 @@ fn it_covers_every_kind() {
     for case in CASES.iter() {
         coverage.add(&play(case, None).coverage);
     }
-    let answers: Vec<u32> = (0..12).collect();
-    assert_eq!(coverage.missing(&answers), [""; 0]);
+    // Each opcode by mode, paging and end comes in bulk only.
+    let missing = coverage.missing(Due::InBulk, &[]);
+    let missing: Vec<_> = missing.iter().filter(|kind| !kind.contains(", paging ")).collect();
+    assert_eq!(missing, [""; 0]);
 }
 
 #[test]
 fn it_tells_every_planted_mistake_apart() {
     assert!(Mistake::ALL.len() >= 20);
-    let judge = Judge::new(&CASES);
+    // The directed cases alone do, whatever random ones are chosen.
+    let directed: Vec<Case> = all().into_iter().map(|named| named.1).collect();
+    let judge = Judge::new(&directed);
     let members = families().into_iter().flat_map(|family| family.members);
-    for mistake in Mistake::ALL.iter().copied().chain(members) {
-        assert!(!judge.telling(mistake, 1).is_empty(), "{mistake:?}");
-    }
+    let told = |mistake: &Mistake| !judge.telling(*mistake, 1).is_empty();
+    let all = Mistake::ALL.iter().copied().chain(members);
+    let untold: Vec<Mistake> = all.filter(|mistake| !told(mistake)).collect();
+    assert_eq!(untold, []);
 }

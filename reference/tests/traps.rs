@@ -113,6 +113,19 @@ fn a_frame_may_lie_on_two_pages() {
 }
 
 #[test]
+fn four_and_five_walks() {
+    let kept = |page: u32, write: bool| (page, page, true, write);
+    let four = after("four walks in a step");
+    four.delivered(0x5008, 9, 0x104);
+    assert_eq!(four.entries(), [kept(0, false), kept(5, true), kept(4, true)]);
+    let five = after("five walks in a step");
+    five.delivered(0x5008, 8, 0x104);
+    assert_eq!(five.entries(), [kept(0, false), kept(3, false), kept(5, true), kept(4, true)]);
+    assert_eq!((four.regs().vadr, five.regs().vadr), (0x7001, 0x7001));
+    assert_eq!((five.machine.coverage.walks[5], five.regs().b, five.regs().c), (1, 0x3000, 1));
+}
+
+#[test]
 fn a_frame_is_written_for_the_kernel() {
     let after = after("frame on a page without U");
     after.delivered(0xe00, 21, 0x104);

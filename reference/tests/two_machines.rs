@@ -4,7 +4,7 @@
 
 use reference::case::{Case, Runs};
 use reference::compare::{compare, Question, Verdict};
-use reference::coverage::Coverage;
+use reference::coverage::{Coverage, Due};
 use reference::directed;
 use reference::mistake::Mistake;
 use reference::random::scene::{case, Purpose};
@@ -44,7 +44,7 @@ fn the_two_machines_agree_and_every_kind_was_covered() {
     }
     // 3 can't come: entries are only ever kept by walks.
     assert_eq!(coverage.answers[3], 0);
-    assert_eq!(coverage.missing(&[0, 1, 2, 4, 5, 6]), [""; 0]);
+    assert_eq!(coverage.missing(Due::Always, &[0, 1, 2, 4, 5, 6]), [""; 0]);
     assert!(ended > 100);
     println!("{}{ended} of {LISTS} lists ended at a store", coverage.report());
 }

@@ -63,6 +63,7 @@ fn moves() -> Vec<(&'static str, Runs)> {
         ("JSRA is relative", bare(ab(0x21, 0), &[op("JSRA", 0)]).run(1)),
         ("JMPI", bare(ab(0x43, 0), &[op("JMPI", 0x10)]).run(1)),
         ("JMPI drops low bits", bare(ab(0x47, 0), &[op("JMPI", 0x12)]).run(1)),
+        ("NOP with an operand", bare(kernel(), &[op("NOP", 8)]).run(1)),
         ("JMP drops low bits", bare(kernel(), &[op("JMP", 0x23)]).run(1)),
         ("JSR drops low bits", bare(kernel(), &[op("JSR", 0x22)]).run(1)),
         ("JMPI by a negative a", bare(ab(MIN, 0), &[op("JMPI", -8)]).run(1)),

@@ -50,6 +50,8 @@ fn frames() -> Vec<(&'static str, Runs)> {
         ),
         ("second slot refused", bare(at_8, &[op("TRAP", 0)]).bytes(0, &[0xee; 8]).run(1)),
         ("frame over address 0", wraps),
+        ("four walks in a step", walks(op("LX", 0))),
+        ("five walks in a step", walks(op("MCPY", 0))),
         ("frame over two pages", paged(across, &[op("TRAP", 0)]).run(1)),
         ("second slot refused after a walk", half.words(0x2008, &[0x2005]).run(1)),
         (
@@ -78,6 +80,14 @@ fn frames() -> Vec<(&'static str, Runs)> {
         ("key in user mode", bare(open(user()), &[]).run_keys(1, &[(0, 9)])),
         ("timer in user mode", bare(timed, &[]).run(1)),
     ]
+}
+
+/// a's page is absent, and the frame goes on pages 5 and 4.
+fn walks(word: u32) -> Runs {
+    let mut runs =
+        paged(Registers { a: 0x7001, b: 0x3000, c: 1, sp: 0x5008, ..open(kernel()) }, &[word]);
+    runs.memory.resize(24_576, 0);
+    runs.words(0x2010, &[0x4007, 0x5007]).run(1)
 }
 
 fn returns() -> Vec<(&'static str, Runs)> {

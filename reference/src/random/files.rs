@@ -3,14 +3,16 @@
 use super::program::story;
 use super::rng::Rng;
 use super::space::Space;
-use crate::case::Load;
+use crate::case::{Load, MAX_CASE};
 use crate::load::executable;
 
 const MEMORY: [usize; 9] = [0, 1, 4095, 4096, 4096, 8192, 8192, 12_288, 16_384];
+/// Now and then.
+const LARGE: [usize; 4] = [69_632, 1_048_576, 2_093_056, 2_097_152];
 
 /// A file to load into a memory that passes or doesn't.
 pub fn load_case(rng: &mut Rng) -> Load {
-    let memory_length = rng.pick(&MEMORY);
+    let memory_length = if rng.percent(1) { rng.pick(&LARGE) } else { rng.pick(&MEMORY) };
     let file = file_for(rng, memory_length);
     Load { memory_length, fill: rng.pick(&[0, 0x55, 0xff]), file }
 }
@@ -30,7 +32,9 @@ pub fn file_for(rng: &mut Rng, memory_length: usize) -> Vec<u8> {
 fn body(rng: &mut Rng, memory_length: usize) -> Vec<u8> {
     let length = match rng.weighted(&[6, 2, 1]) {
         0 => 4 + rng.below(200) as usize,
-        1 => memory_length.saturating_add_signed(rng.between(-5, 5) as isize),
+        1 if memory_length < MAX_CASE / 2 => {
+            memory_length.saturating_add_signed(rng.between(-5, 5) as isize)
+        }
         _ => rng.below(4) as usize,
     };
     let space = Space::unpaged(rng, 4096);

@@ -4,8 +4,8 @@
 use super::rng::Rng;
 use super::space::{bits, Space};
 use super::values::number;
-use crate::opcodes::decode::{decode, Base, Op, Reg};
-use crate::opcodes::sets::{code_of, ILLEGAL, LEGAL};
+use crate::opcodes::decode::{can_fault_in_kernel, decode, Base, Op, Reg, Source, System};
+use crate::opcodes::sets::{code_of, name_of, ILLEGAL, LEGAL};
 use crate::types::PAGE;
 use crate::words::instruction;
 
@@ -32,7 +32,9 @@ impl Writer<'_> {
         let odd = if self.rng.percent(10) { self.rng.between(-3, 3) } else { 0 };
         let memory_size = self.space.memory_size;
         let even = match op {
-            Op::Load(_, Base::Sp, _) | Op::Store(Base::Sp, _) => 4 * self.rng.between(-6, 12),
+            Op::Load(_, Base::Sp, _) | Op::Store(Base::Sp, _) | Op::Arith(_, Source::Stack) => {
+                4 * self.rng.between(-6, 12)
+            }
             Op::Load(_, Base::Pc, _) | Op::Store(Base::Pc, _) => 4 * self.rng.between(-20, 200),
             Op::Load(..) | Op::Store(..) => self.rng.between(-8, 8),
             Op::Branch(_) | Op::Jmp | Op::Jsr => 4 * self.rng.between(-6, 8),
@@ -66,7 +68,7 @@ impl Writer<'_> {
 
     /// One gesture of a program.
     pub fn gesture(&mut self) {
-        match self.rng.weighted(&[36, 12, 8, 8, 6, 9, 6, 4, 4, 2, 8, 2]) {
+        match self.rng.weighted(&[36, 12, 8, 8, 6, 9, 6, 4, 4, 2, 8, 2, 2]) {
             0 => self.legal(),
             1 => self.pointed_store(),
             2 => self.pointed_load(),
@@ -78,7 +80,37 @@ impl Writer<'_> {
             8 => self.pick_op(&["JSR", "LEV", "JSRA", "JMPI", "ENT", "JMP"]),
             9 => self.sweep(),
             10 => self.arithmetic(),
-            _ => self.block_on_tables(),
+            11 => self.block_on_tables(),
+            _ => self.faulting(),
+        }
+    }
+
+    /// Any opcode that can fault, with an operand that makes it.
+    fn faulting(&mut self) {
+        const BEYOND: i32 = 0x7f_f000;
+        let code = loop {
+            let code = self.rng.pick(&LEGAL);
+            if decode(code).is_some_and(can_fault_in_kernel) {
+                break code;
+            }
+        };
+        let name = name_of(code);
+        match decode(code) {
+            Some(Op::Arith(_, Source::Immediate)) => self.op(name, 0),
+            Some(Op::Arith(_, Source::Register)) => {
+                self.constant(Reg::B, 0);
+                self.op(name, 0);
+            }
+            Some(Op::Block(_) | Op::System(System::Pdir)) => {
+                self.constant(Reg::A, BEYOND as u32);
+                self.op(name, 0);
+            }
+            Some(Op::Load(..) | Op::Store(..) | Op::Arith(..)) => self.op(name, BEYOND),
+            _ => {
+                self.op("ENT", BEYOND);
+                self.op(name, 0);
+                self.op("ENT", -BEYOND);
+            }
         }
     }
 
@@ -150,6 +182,10 @@ impl Writer<'_> {
                 break code;
             }
         };
+        if matches!(decode(code), Some(Op::Arith(_, Source::Stack))) && self.rng.percent(70) {
+            self.op("PSHB", 0);
+            return self.op(name_of(code), 0);
+        }
         self.suited(code);
     }
 

@@ -8,7 +8,7 @@ use super::space::{build, Space, HANDLER, PROGRAM};
 use super::trim::trim;
 use crate::case::{Case, RunInput, Runs};
 use crate::opcodes::sets::code_of;
-use crate::types::{Key, PAGE};
+use crate::types::{Key, Registers, PAGE};
 use crate::words::{self, instruction};
 
 /// What a list of cases is for.
@@ -37,8 +37,12 @@ pub fn case(seed: u64, number: u64, purpose: Purpose) -> Case {
     runs.into()
 }
 
-/// The memory's frames: mostly four, so that bulk runs stay cheap.
+/// The memory's frames: mostly four, so that bulk runs stay cheap; now and
+/// then more, up to 2 MiB.
 fn frames(rng: &mut Rng) -> u32 {
+    if rng.below(400) == 0 {
+        return rng.pick(&[17, 32, 64, 100, 128, 255, 256, 511, 512]);
+    }
     rng.pick(&[1, 1, 2, 2, 3, 3, 3, 4, 4, 4, 4, 4, 4, 4, 4, 4, 4, 8, 8, 16])
 }
 
@@ -58,9 +62,24 @@ fn runs_case(rng: &mut Rng, number: u64, purpose: Purpose) -> Runs {
     if purpose == Purpose::Any && rng.percent(25) {
         case.record.buffer = stale_buffer(rng, &space);
     }
+    if paging && rng.percent(2) {
+        put_many_walks(rng, &space, &mut case);
+    }
     case.console = vec![0; rng.pick(&[0, 1, 3, 16, 200])];
     put_console_and_keys(rng, &mut case);
     case
+}
+
+/// A first step of up to five walks: its fetch, two bytes, and where the second
+/// faults, the slots of a frame over two pages.
+fn put_many_walks(rng: &mut Rng, space: &Space, case: &mut Runs) {
+    let stack = rng.pick(&space.pages).0.wrapping_mul(PAGE).wrapping_add(8);
+    let regs = &mut case.record.regs;
+    let (a, b) = (space.address(rng), space.address(rng));
+    let (sp, ksp) = if regs.user { (regs.sp, stack) } else { (stack, regs.ksp) };
+    *regs = Registers { a, b, c: 1, sp, ksp, iena: true, pc: space.code + PROGRAM, ..regs.clone() };
+    let word = instruction(code_of(rng.pick(&["MCPY", "MCMP"])), 0);
+    words::put(&mut case.memory, space.code_frame * PAGE + PROGRAM, 4, word);
 }
 
 /// The program and its trap handler, in the space's frame for them.

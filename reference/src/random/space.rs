@@ -215,10 +215,14 @@ pub fn build(rng: &mut Rng, memory: &mut [u8]) -> Space {
 /// whatever the rights.
 fn pages(memory: &[u8], pdir: u32, wide: Option<u32>) -> Vec<(u32, Option<u32>)> {
     let memory_size = memory.len() as u32;
+    // The last frames of a large memory, and the first beyond it.
+    let frames = memory_size / PAGE;
+    let last = frames.max(23) - 2..(frames + 1).max(21);
     let mut pages = Vec::new();
     for top in [0, 1, 2, 1023] {
         let directory = words::get(memory, pdir + 4 * top, 4) & !(PAGE - 1);
-        for index in (0..=20).chain([1023]).chain(wide.map_or(0..0, |_| 32..40)) {
+        let wide = wide.map_or(0..0, |_| 32..40);
+        for index in (0..=20).chain([1023]).chain(wide).chain(last.clone()) {
             let page = top * 1024 + index;
             if directory >= memory_size {
                 pages.push((page, None));
