@@ -36,7 +36,8 @@ const USAGE: &str = "usage:
   reference random-files [--seed S] [--first F] [--count N]
                                                 many, each after its length (u32)
   reference write-files                         executables, each with its length in front
-  reference write-broken                        broken streams, each with its length in front
+  reference write-broken [--number N]           broken streams, each with its length in front;
+                                                or one of them as it is
   reference lines < files                       the run program's line of each";
 
 type Done = Result<(), String>;
@@ -70,7 +71,7 @@ fn command(words: &[String]) -> Done {
         "random-file" => print_file(seed, option(options, "--number", 0)?),
         "random-files" => print_files(seed, numbers),
         "write-files" => write_files(),
-        "write-broken" => write_broken(),
+        "write-broken" => write_broken(option(options, "--number", u64::MAX)?),
         "lines" => print_lines(),
         _ => Err(USAGE.to_string()),
     }
@@ -167,9 +168,14 @@ fn print_lines() -> Done {
     Ok(())
 }
 
-fn write_broken() -> Done {
-    let list = streams().into_iter().flat_map(|(_, stream)| with_length(&stream));
-    io::stdout().lock().write_all(&list.collect::<Vec<u8>>()).map_err(text)
+/// All broken streams, or one of them as it is.
+fn write_broken(number: u64) -> Done {
+    let streams = streams();
+    let list = match usize::try_from(number).ok().and_then(|number| streams.get(number)) {
+        Some((_, stream)) => stream.clone(),
+        None => streams.iter().flat_map(|(_, stream)| with_length(stream)).collect(),
+    };
+    io::stdout().lock().write_all(&list).map_err(text)
 }
 
 fn with_length(bytes: &[u8]) -> Vec<u8> {
