@@ -199,14 +199,15 @@ fn print_mutants() -> Done {
     let judge = Judge::new(&cases);
     let mut untold = Vec::new();
     for mistake in Mistake::ALL {
-        let telling = judge.telling(*mistake, 4);
-        println!("told by {telling:?}: {}", mistake.text());
-        untold.extend(telling.is_empty().then_some(*mistake));
+        let telling = judge.telling(*mistake);
+        let by = telling.map_or("none".to_string(), |number| number.to_string());
+        println!("told by {by:>4}: {}", mistake.text());
+        untold.extend(telling.is_none().then_some(*mistake));
     }
     let mut count = Mistake::ALL.len();
     for family in families() {
-        let of = |mistake: &Mistake| judge.telling(*mistake, 1).is_empty();
-        let left: Vec<Mistake> = family.members.iter().copied().filter(of).collect();
+        let untold_by = |mistake: &Mistake| judge.telling(*mistake).is_none();
+        let left: Vec<Mistake> = family.members.iter().copied().filter(untold_by).collect();
         let members = family.members.len();
         println!("told {:>5} of {members:>5}: {}", members - left.len(), family.text);
         count += members;

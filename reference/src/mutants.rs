@@ -37,13 +37,12 @@ impl<'a> Judge<'a> {
         play(&self.cases[number], Some(mistake)).shown != self.shown[number]
     }
 
-    /// Cases that tell the mistake apart, at most so many.
-    pub fn telling(&self, mistake: Mistake, most: usize) -> Vec<usize> {
+    /// The cheapest case that tells the mistake apart.
+    pub fn telling(&self, mistake: Mistake) -> Option<usize> {
         let candidates = match opcode_of(mistake) {
             Some(code) => &self.executing[usize::from(code)],
             None => &self.by_cost,
         };
-        let telling = candidates.iter().copied().filter(|number| self.tells(*number, mistake));
-        telling.take(most).collect()
+        candidates.iter().copied().find(|number| self.tells(*number, mistake))
     }
 }

@@ -55,7 +55,10 @@ pub fn read_all(bytes: &[u8]) -> Result<Vec<Case>, Broken> {
 }
 
 /// A case's bytes after its length, and what follows them.
-fn split(bytes: &[u8]) -> Result<Option<(&[u8], &[u8])>, Broken> {
+type Parts<'a> = (&'a [u8], &'a [u8]);
+
+/// `None` at the stream's end.
+fn split(bytes: &[u8]) -> Result<Option<Parts<'_>>, Broken> {
     if bytes.is_empty() {
         return Ok(None);
     }

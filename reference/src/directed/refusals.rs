@@ -157,10 +157,11 @@ fn stopped() -> Vec<(&'static str, Runs)> {
     ]
 }
 
-/// A change for each refusal of a run. What is written before a lower one is
-/// kept by it.
+/// A refusal's number, and a change for it.
+type Break = (u32, fn(&mut Runs));
+
 #[rustfmt::skip]
-const BREAKS: [(u32, fn(&mut Runs)); 6] = [
+const BREAKS: [Break; 6] = [
     (1, |runs| runs.memory.truncate(4095)),
     (2, |runs| runs.record.regs.pc = 1),
     (3, |runs| runs.record.buffer.count = u32::MAX),
