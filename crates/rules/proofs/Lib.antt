@@ -1,3 +1,4 @@
+pub mod RecordNumbers
 pub mod Leaves
 pub mod StepSpace
 pub mod ValidStep

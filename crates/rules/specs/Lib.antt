@@ -2,6 +2,7 @@ pub mod Record
 pub mod Tree
 pub mod Outcome
 pub mod Arithmetic
+pub mod Numbers
 pub mod Transfer
 pub mod Jump
 pub mod Block

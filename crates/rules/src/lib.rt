@@ -4,6 +4,8 @@ ghost use Rattle.rules.specs.Record.{stopNumber};
 use paging::Entry;
 use paging::Space;
 
+pub mod numbers;
+
 // What ordinary instructions change, and the step count.
 pub struct Regs {
     pub a: u32,

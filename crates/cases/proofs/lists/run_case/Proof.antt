@@ -1,5 +1,6 @@
 -- `cases::lists::run_case` is safe and ends. Assumes nothing.
 use lib.Seq.{length-take-le}
+use native.Mathlib.Omega.{arith}
 use mathlib.Core.Path.{sym}
 use borrow.Author.Needs.{needs}
 use Rattle.cases.proofs.lists.run_case.Statement.{statement}
@@ -17,29 +18,26 @@ returns c = search needs
 returns-2 : tie.Need-returns-2
 returns-2 c = search needs
 
-slice-relend-prefix-start : tie.Need-slice-relend-prefix-start
-slice-relend-prefix-start c = search needs
+slice-relend-prefix-passes : tie.Need-slice-relend-prefix-passes
+slice-relend-prefix-passes c = search needs
 
-slice-aggregate-start : tie.Need-slice-aggregate-start
-slice-aggregate-start c = sym (length-take-le (c .before .before .before .before .place .result) (c .before .before .before .before .before .before .before .before .before .args .memory .now) (c .before .before .if1 .left))
+slice-aggregate-passes : tie.Need-slice-aggregate-passes
+slice-aggregate-passes c = sym (length-take-le _ _ (omega arith))
 
-slice-relend-prefix-start-2 : tie.Need-slice-relend-prefix-start-2
-slice-relend-prefix-start-2 c = search needs
+slice-relend-prefix-passes-2 : tie.Need-slice-relend-prefix-passes-2
+slice-relend-prefix-passes-2 c = search needs
 
-slice-aggregate-start-2 : tie.Need-slice-aggregate-start-2
-slice-aggregate-start-2 c = sym (length-take-le (c .before .before .before .before .place2 .result) (c .before .before .before .before .before .before .before .before .before .before .args .console .now) (c .before .before .if2 .left))
+slice-aggregate-passes-2 : tie.Need-slice-aggregate-passes-2
+slice-aggregate-passes-2 c = sym (length-take-le _ _ (omega arith))
 
-start-requires : tie.Need-start-requires
-start-requires c κs = search needs
+passes-requires : tie.Need-passes-requires
+passes-requires c κs = search needs
 
 same-length : tie.Need-same-length
 same-length c = search needs
 
 same-length-2 : tie.Need-same-length-2
 same-length-2 c = search needs
-
-same-length-3 : tie.Need-same-length-3
-same-length-3 c = search needs
 
 returns-3 : tie.Need-returns-3
 returns-3 c = search needs
@@ -52,12 +50,11 @@ run-case-spec =
     place-requires-2
     returns
     returns-2
-    slice-relend-prefix-start
-    slice-aggregate-start
-    slice-relend-prefix-start-2
-    slice-aggregate-start-2
-    start-requires
+    slice-relend-prefix-passes
+    slice-aggregate-passes
+    slice-relend-prefix-passes-2
+    slice-aggregate-passes-2
+    passes-requires
     same-length
     same-length-2
-    same-length-3
     returns-3)

@@ -1,0 +1,2 @@
+pub mod LentKeys
+pub mod LentRecord
