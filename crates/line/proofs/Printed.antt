@@ -15,12 +15,12 @@ use Rattle.executable.specs.Executable.{loadNumber, loadAnswer}
 use Rattle.keys.specs.Packed.{unpacked}
 use Rattle.rules.specs.declared.Key.{Key}
 use Rattle.rules.specs.declared.Machine.{Machine}
-use Rattle.rules.specs.declared.RunAnswer.{RunAnswer}
 use Rattle.rules.specs.Record.{stopNumber}
 use Rattle.rules.specs.Load.{Loaded, loadBy, load}
 use Rattle.rules.specs.Run.{Ran, run, reported}
 use Rattle.rules.specs.Step.{State}
 use Rattle.refusals.specs.View.{firstSlots, entriesOf, viewOf}
+use Rattle.runs.specs.declared.Ran.{Ran as Went}
 use Rattle.v9.specs.Contract.{RunsAs}
 use Rattle.line.specs.Line.{stopLine, refusedLine, Shows}
 use Rattle.line.specs.Program.{startOf, runOf, ranLine, loadedLine, lineOf}
@@ -62,13 +62,13 @@ module _ (file m con : List ℕ) {line : List ℕ} {r : ℕ} where
   unfolding lineOf
   shown-refused {l} {n} p q z s = subst (λ (t : List ℕ). Shows t line r) (refused-by l con q z ∙ ap (λ (k : Loaded). loadedLine k con) p) s
 
-  pub shown-ran : {l : Loaded} {n : ℕ} {a : RunAnswer} {steps : ℕ} {x : Machine} {m′ con′ : List ℕ} → l ≡ load file m → n ≡ loadNumber (l .answer) → n ≡ 0
-      → RunsAs (unpacked []) 100000 (l .machine) (l .mem) con a steps x m′ con′ → Shows (stopLine (stopNumber (x .cpu .stop)) steps (x .cpu .regs)) line r → Shows (lineOf file m con) line r
+  pub shown-ran : {l : Loaded} {n : ℕ} {t : Went} {m′ con′ : List ℕ} → l ≡ load file m → n ≡ loadNumber (l .answer) → n ≡ 0
+      → RunsAs (unpacked []) 100000 (l .machine) (l .mem) con t m′ con′ → Shows (stopLine (stopNumber (t .machine .cpu .stop)) (t .steps) (t .machine .cpu .regs)) line r → Shows (lineOf file m con) line r
   unfolding lineOf
-  shown-ran {l} {n} {a} {steps} {x} {m′} {con′} p q z t s =
+  shown-ran {l} {n} {t} {m′} {con′} p q z w s =
       let seen : viewOf (l .machine) (l .mem) con ≡ startOf l con = subst (λ (k : Loaded). viewOf (k .machine) (k .mem) con ≡ startOf k con) (sym p) (started file m con) in
       subst (λ (u : List ℕ). Shows u line r)
-      (ended (run buffered (unpacked []) 100000 (viewOf (l .machine) (l .mem) con)) x (t .steps) (t .state)
+      (ended (run buffered (unpacked []) 100000 (viewOf (l .machine) (l .mem) con)) (t .machine) (w .steps) (w .state)
       ∙ ap (λ (ks : List Key). ranLine (run buffered ks 100000 (viewOf (l .machine) (l .mem) con))) no-keys
       ∙ ap (λ (v : State (List Entry)). ranLine (run buffered [] 100000 v)) seen
       ∙ ran-by l con q z

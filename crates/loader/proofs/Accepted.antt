@@ -2,7 +2,7 @@
 use Prim.Native.Nat.{ℕ, _-_, _%_, _<_, _≤_}
 use mathlib.Core.Bool.{Bool, true, false, _&&_, false≢true}
 use mathlib.Core.List.{List}
-use mathlib.Core.Path.{_≡_, refl, sym, _∙_}
+use mathlib.Core.Path.{_≡_, refl, sym, _∙_, ap}
 use native.Mathlib.Omega.{arith}
 use borrow.Author.Tests.{leb-true}
 use lib.Dec.{eqb, ltb, leb}
@@ -14,8 +14,9 @@ use Rattle.executable.specs.declared.LoadAnswer.the-variants.{Accepted, BadSize
 use Rattle.executable.specs.Executable.{loadNumber, magicOf, entryOf, bodyOf, bodyOk, loadAnswer}
 use Rattle.rules.specs.declared.Cpu.{Cpu}
 use Rattle.rules.specs.declared.Machine.{Machine}
-use Rattle.rules.specs.Load.{cpuWith, zeroCpu, emptyMachine, image, loadBy, load}
-use Rattle.loader.specs.Loader.{Loadable, loadedWith}
+use Rattle.rules.specs.Load.{Loaded, cpuWith, zeroCpu, emptyMachine, image, loadBy, load}
+use Rattle.loader.specs.declared.Loaded.{Loaded as Result}
+use Rattle.loader.specs.Loader.{Loadable, loadedWith, LoadsAs}
 
 -- a choice whose other side is a refusal
 chosen : (t : Bool) (x y : LoadAnswer) → 0 < loadNumber y → (if t then x else y) ≡ Accepted → (t ≡ true) × (x ≡ Accepted)
@@ -60,11 +61,15 @@ refused-by BadBody file m n = refl
 refused-by BadDataStart file m n = refl
 refused-by BadEntry file m n = refl
 
+-- a load as the rules have it answers with their number
+as-ruled : (file m : List ℕ) (r : Result) {m′ : List ℕ} → loadedWith r m′ ≡ load file m → LoadsAs file m r m′
+as-ruled file m r e = record { number = ap (λ (l : Loaded). loadNumber (l .answer)) e; same = e }
+
 module _ (file m : List ℕ) {a : LoadAnswer} {n : ℕ} (p : a ≡ loadAnswer (length m) file) (q : n ≡ loadNumber a) where
   -- a refused load
-  pub refused : {c : Cpu} {r : Machine} → (n ≡ 0 → ⊥) → c ≡ cpuWith 0 0 0 → r ≡ emptyMachine c → loadedWith (record { answer = a; machine = r }) m ≡ load file m
+  pub refused : {c : Cpu} {r : Machine} → (n ≡ 0 → ⊥) → c ≡ cpuWith 0 0 0 → r ≡ emptyMachine c → LoadsAs file m (record { answer = a; machine = r }) m
   unfolding load
-  refused l d e = rw (e, d, ← p) (refused-by a file m (λ z. l (q ∙ z)))
+  refused {r = r} l d e = as-ruled file m (record { answer = a; machine = r }) (rw (e, d, ← p) (refused-by a file m (λ z. l (q ∙ z))))
 
   module _ (z : n ≡ 0) where
     -- an accepted one: the file can be loaded
@@ -73,6 +78,6 @@ module _ (file m : List ℕ) {a : LoadAnswer} {n : ℕ} (p : a ≡ loadAnswer (l
 
     -- and is
     pub accepted : {c : Cpu} {r : Machine} {x : ℕ} {m′ : List ℕ} → m′ ≡ image (length m) (bodyOf file) → x ≡ entryOf file → c ≡ cpuWith (length m) x 0xffffffff → r ≡ emptyMachine c
-        → loadedWith (record { answer = a; machine = r }) m′ ≡ load file m
+        → LoadsAs file m (record { answer = a; machine = r }) m′
     unfolding load
-    accepted f x d e = rw (f, e, d, x, ← p, accepting a (sym q ∙ z))
+    accepted {r = r} f x d e = as-ruled file m (record { answer = a; machine = r }) (rw (f, e, d, x, ← p, accepting a (sym q ∙ z)))

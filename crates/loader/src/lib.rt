@@ -3,8 +3,8 @@ ghost use mathlib.Core.Path.{_≡_};
 ghost use Prim.Native.Nat.{_≤_};
 ghost use lib.ListN.{length};
 ghost use Rattle.executable.specs.Executable.{bodyOf};
-ghost use Rattle.rules.specs.Load.{cpuWith, emptyMachine, image, load};
-ghost use Rattle.loader.specs.Loader.{placed, zeroed, Loadable, loadedWith};
+ghost use Rattle.rules.specs.Load.{cpuWith, emptyMachine, image};
+ghost use Rattle.loader.specs.Loader.{placed, zeroed, Loadable, LoadsAs};
 use executable::LoadAnswer;
 use paging::Entry;
 use paging::Space;
@@ -109,7 +109,7 @@ fn fill(file: &[u8], mem: &mut [u8])
 
 // A file is loaded, or refused: then memory keeps its bytes.
 pub fn load(file: &[u8], mem: &mut [u8]) -> Loaded
-    ensures { λ r. ⌜ loadedWith r (now (mem .exit)) ≡ load (now (file .entry)) (now (mem .entry)) ⌝ }
+    ensures { λ r. ⌜ LoadsAs (now (file .entry)) (now (mem .entry)) r (now (mem .exit)) ⌝ }
 {
     let size = mem.len();
     let answer = executable::judge(size, file);

@@ -22,6 +22,7 @@ use Rattle.rules.proofs.StepCount.{run-count}
 use Rattle.refusals.specs.View.{viewOf}
 use Rattle.refusals.specs.Refusal.{refusalOf}
 use Rattle.runs.specs.declared.Going.{Going}
+use Rattle.runs.specs.declared.Ran.{Ran}
 use Rattle.runs.specs.Advance.{leftOf, endOf}
 use Rattle.runs.specs.Going.{beginOf, outcome, Able, Proceeds}
 use Rattle.runs.proofs.Left.{left-least, left-running, end-left}
@@ -102,8 +103,14 @@ module _ (ks : List Key) (budget : ℕ) (m : Machine) (mem con : List ℕ) where
       state = sym (p .same ks (sym q)) ∙ u .state;
     }
 
-    pub under-last : g .left ≤ 0 → RunsAs ks budget m mem con (g .ran .answer) (g .ran .steps) (g .ran .machine) mem′ con′
-    under-last e = record { answer = u .answer; steps = omega (arith, u .steps, counted); state = state; same = u .same }
+    pub under-last : g .left ≤ 0 → RunsAs ks budget m mem con (g .ran) mem′ con′
+    under-last e = record {
+      number = ap (λ (b : RunAnswer). runNumber b) (u .answer);
+      answer = u .answer;
+      steps = omega (arith, u .steps, counted);
+      state = state;
+      same = u .same;
+    }
       where
         state : viewOf (g .ran .machine) mem′ con′ ≡ run buffered ks budget start .state
         state = sym (end-over ks (g .left) (viewOf (g .ran .machine) mem′ con′) (omega (arith, e))) ∙ u .state
@@ -130,16 +137,16 @@ module _ (ks : List Key) (budget : ℕ) (m : Machine) (mem con : List ℕ) {risi
   under-start = subst (λ (x : Machine). UnderWay ks budget x mem con g mem con) (sym (first-machine ks budget m mem con p q e)) (under-first ks budget m mem con p q e)
 
   pub under-end : {r : Going} {mem′ con′ : List ℕ} → UnderWay ks budget (g .ran .machine) mem con r mem′ con′ → r .left ≤ 0
-      → RunsAs ks budget m mem con (r .ran .answer) (r .ran .steps) (r .ran .machine) mem′ con′
+      → RunsAs ks budget m mem con (r .ran) mem′ con′
   under-end {r} {mem′} {con′} u h =
-      subst (λ (x : Machine). RunsAs ks budget x mem con (r .ran .answer) (r .ran .steps) (r .ran .machine) mem′ con′) (first-machine ks budget m mem con p q e)
+      subst (λ (x : Machine). RunsAs ks budget x mem con (r .ran) mem′ con′) (first-machine ks budget m mem con p q e)
       (under-last ks budget (g .ran .machine) mem con u h)
 
 -- the single step, from what its run gave
-pub steps-once : {ks : List Key} {m : Machine} {mem con : List ℕ} {a : RunAnswer} {n : ℕ} {x y : Machine} {i : ℕ} {mem′ con′ : List ℕ}
-    → RunsAs ks 1 m mem con a n x mem′ con′ → y ≡ x → i ≡ runNumber a → StepsAs ks m mem con i y mem′ con′
-steps-once {mem′ = mem′} {con′ = con′} r p q = record {
-  number = q ∙ ap (λ (b : RunAnswer). runNumber b) (r .answer);
-  state = ap (λ (z : Machine). viewOf z mem′ con′) p ∙ r .state;
-  same = λ e. p ∙ r .same (r .steps ∙ e);
+pub steps-once : {ks : List Key} {m : Machine} {mem con : List ℕ} {r : Ran} {y : Machine} {i : ℕ} {mem′ con′ : List ℕ}
+    → RunsAs ks 1 m mem con r mem′ con′ → y ≡ r .machine → i ≡ runNumber (r .answer) → StepsAs ks m mem con i y mem′ con′
+steps-once {mem′ = mem′} {con′ = con′} t p q = record {
+  number = q ∙ t .number;
+  state = ap (λ (z : Machine). viewOf z mem′ con′) p ∙ t .state;
+  same = λ e. p ∙ t .same (t .steps ∙ e);
 }

@@ -9,8 +9,7 @@ use runs::Ran;
 
 // A run with packed keys: nine bytes a key, eight of its step number, the lowest first, and its byte.
 pub fn run_packed(m: Machine, mem: &mut [u8], console: &mut [u8], keys: &[u8], budget: u64) -> Ran
-    ensures { λ r. ⌜ RunsAs (unpacked (now (keys .entry))) budget m (now (mem .entry)) (now (console .entry)) (r .answer) (r .steps) (r .machine)
-        (now (mem .exit)) (now (console .exit)) ⌝ }
+    ensures { λ r. ⌜ RunsAs (unpacked (now (keys .entry))) budget m (now (mem .entry)) (now (console .entry)) r (now (mem .exit)) (now (console .exit)) ⌝ }
 {
     let rising = keys::rising_packed(keys);
     let mut g = runs::begin(m, mem.len(), console.len(), rising, keys.len() / 9, budget);
@@ -23,8 +22,7 @@ pub fn run_packed(m: Machine, mem: &mut [u8], console: &mut [u8], keys: &[u8], b
 
 // A run.
 pub fn run(m: Machine, mem: &mut [u8], console: &mut [u8], keys: &[Key], budget: u64) -> Ran
-    ensures { λ r. ⌜ RunsAs (now (keys .entry)) budget m (now (mem .entry)) (now (console .entry)) (r .answer) (r .steps) (r .machine)
-        (now (mem .exit)) (now (console .exit)) ⌝ }
+    ensures { λ r. ⌜ RunsAs (now (keys .entry)) budget m (now (mem .entry)) (now (console .entry)) r (now (mem .exit)) (now (console .exit)) ⌝ }
 {
     let rising = keys::rising(keys);
     let mut g = runs::begin(m, mem.len(), console.len(), rising, keys.len(), budget);

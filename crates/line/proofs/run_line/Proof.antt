@@ -20,7 +20,7 @@ same-length-2 : tie.Need-same-length-2
 same-length-2 c = search needs
 
 returns : tie.Need-returns
-returns c = shown-refused _ _ _ (c .before .before .before .before .before .before .before .before .load .ensures) (c .before .before .before .before .before .load-number .ensures) (c .before .before .before .before .if1 .taken) (c .before .before .refused-line .ensures)
+returns c = shown-refused _ _ _ (c .before .before .before .before .before .before .before .before .load .ensures .same) (c .before .before .before .before .before .load-number .ensures) (c .before .before .before .before .if1 .taken) (c .before .before .refused-line .ensures)
 
 slice-aggregate-run-packed : tie.Need-slice-aggregate-run-packed
 slice-aggregate-run-packed c = search needs
@@ -41,7 +41,7 @@ same-length-5 : tie.Need-same-length-5
 same-length-5 c = search needs
 
 returns-2 : tie.Need-returns-2
-returns-2 c = shown-ran _ _ _ (c .before .before .before .before .before .before .before .before .before .before .before .before .before .before .before .before .before .before .before .before .load .ensures) (c .before .before .before .before .before .before .before .before .before .before .before .before .before .before .before .before .before .load-number .ensures) (c .before .before .before .before .before .before .before .before .before .before .before .before .before .before .before .before .if1 .left) (c .before .before .before .before .before .before .before .before .before .before .before .run-packed .ensures) (c .before .before .stop-line .ensures)
+returns-2 c = shown-ran _ _ _ (c .before .before .before .before .before .before .before .before .before .before .before .before .before .before .before .before .before .before .before .before .load .ensures .same) (c .before .before .before .before .before .before .before .before .before .before .before .before .before .before .before .before .before .load-number .ensures) (c .before .before .before .before .before .before .before .before .before .before .before .before .before .before .before .before .if1 .left) (c .before .before .before .before .before .before .before .before .before .before .before .run-packed .ensures) (c .before .before .stop-line .ensures)
 
 pub run-line-spec : {M : Type 1} → statement M
 run-line-spec =

@@ -170,7 +170,7 @@ module _ {M : Type 1} (𝓤 : URA M) (H : Heap 𝓤) (A : Atoms 𝓤) (W : Given
   abbrev Keys : Item 𝓤
   Keys = ‵ (ShrSlice (named 2) κk K.the-row .own xk (sk ∷ []))
 
-  exits : (r : Ran) (zs ds : List ℕ) → RunsAs ks budget h ys cs (r .answer) (r .steps) (r .machine) zs ds → length zs ≡ length ys → length ds ≡ length cs → Is R.the-row r (machR r ∷ [])
+  exits : (r : Ran) (zs ds : List ℕ) → RunsAs ks budget h ys cs r zs ds → length zs ≡ length ys → length ds ≡ length cs → Is R.the-row r (machR r ∷ [])
       → ent 𝓤 (⋆ 𝓤 H A (‵ (flft κm qm) ∷ ‵ (flft κc qc) ∷ ‵ (flft κk qk) ∷ Mem zs ∷ Con ds ∷ Keys ∷ [])) (Post (machR r))
   exits r zs ds e lz ld is =
       qed W (‵ (flft κm qm) ∷ ‵ (flft κc qc) ∷ ‵ (flft κk qk) ∷ Mem zs ∷ Con ds ∷ Keys ∷ []) ∵
@@ -273,7 +273,7 @@ module _ {M : Type 1} (𝓤 : URA M) (H : Heap 𝓤) (A : Atoms 𝓤) (W : Given
   ready : (t : Turn) (n : Next) → ltb 0 (t .g .left) ≡ true → n ≡ nextOf ks (t .g .taken) → length ks < 2 ^ 64 → Able (t .g) (length (t .zs)) × KeyFits (n .some) (t .g .taken)
   ready t n e q k = (t .under .able (goes-on t e), key-fits ks (t .g .taken) q k)
 
-  over : (t : Turn) → ltb 0 (t .g .left) ≡ false → RunsAs ks budget h ys cs (t .g .ran .answer) (t .g .ran .steps) (t .g .ran .machine) (t .zs) (t .ds)
+  over : (t : Turn) → ltb 0 (t .g .left) ≡ false → RunsAs ks budget h ys cs (t .g .ran) (t .zs) (t .ds)
   over t e = under-last ks budget h ys cs (t .under) (nltb→le 0 (t .g .left) (is-false e))
 
   abbrev next : (t : Turn) (n : Next) (r : Going) (zs ds : List ℕ) → Is G.the-row r (machG r ∷ []) → length zs ≡ length (t .zs) → length ds ≡ length (t .ds)

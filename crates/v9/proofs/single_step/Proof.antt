@@ -132,7 +132,7 @@ module _ {M : Type 1} (𝓤 : URA M) (H : Heap 𝓤) (A : Atoms 𝓤) (W : Given
 
   -- what `run` ensures
   abbrev Said : Ran → List ℕ → List ℕ → Type 0
-  Said r zm zc = RunsAs ks 1 h (xm .now) (xc .now) (r .answer) (r .steps) (r .machine) zm zc
+  Said r zm zc = RunsAs ks 1 h (xm .now) (xc .now) r zm zc
 
   -- `number_of`
   abbrev to-number : Ran → Number 𝓤 H A at-mem run .Ghost
