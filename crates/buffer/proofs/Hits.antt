@@ -12,7 +12,7 @@ use Rattle.paging.specs.declared.Access.{Access}
 use Rattle.paging.specs.declared.Entry.{Entry}
 use Rattle.paging.specs.Buffer.{serves, hit, bufferOk}
 use Rattle.buffer.specs.declared.Hit.the-variants.{Frame, Miss}
-use Rattle.buffer.specs.Held.{count, unpack, held, indexOf, slotHit, Buffer}
+use Rattle.buffer.specs.Held.{pageIn, frameIn, count, unpack, held, indexOf, slotHit, Buffer}
 use Rattle.buffer.proofs.Slots.{length-held, held-at}
 use Rattle.buffer.proofs.Keeping.{has-none}
 use Rattle.buffer.proofs.Entries.{buffer-entries, hit-none, hit-at, index-page}
@@ -26,11 +26,11 @@ module _ (l : List ℕ) (i p : ℕ) (k : Access) (user : Bool) where
   slot-past h = rw (le-ltb _ _ h)
 
   module _ (h : i < count l) {s : Bool} (q : s ≡ serves here k user) where
-    pub slot-serves : eqb (getD l i 0 / 4294967296) p && s ≡ true → Frame (getD l i 0 / 4096 % 32768) ≡ slotHit l i p k user
+    pub slot-serves : eqb (pageIn (getD l i 0)) p && s ≡ true → Frame (frameIn (getD l i 0)) ≡ slotHit l i p k user
     unfolding slotHit
     slot-serves e = rw (lt-ltb _ _ h, ← q, e)
 
-    pub slot-refuses : eqb (getD l i 0 / 4294967296) p && s ≡ false → Miss ≡ slotHit l i p k user
+    pub slot-refuses : eqb (pageIn (getD l i 0)) p && s ≡ false → Miss ≡ slotHit l i p k user
     unfolding slotHit
     slot-refuses e = rw (lt-ltb _ _ h, ← q, e)
 

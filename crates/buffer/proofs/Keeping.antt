@@ -10,7 +10,7 @@ use borrow.Author.Tests.{lt-ltb, le-ltb}
 use Rattle.word.specs.Word.{if_then_else_}
 use Rattle.paging.specs.declared.Entry.{Entry}
 use Rattle.paging.specs.Buffer.{has, place, entryPage, fits, roomIn, keep}
-use Rattle.buffer.specs.Held.{count, unpack, held, indexOf, Buffer}
+use Rattle.buffer.specs.Held.{pageIn, count, unpack, held, indexOf, Buffer}
 use Rattle.buffer.proofs.Slots.{length-held, buffer-set, buffer-counted, held-set, held-append}
 
 -- ---- `has` and `place` by the place of a page's entry
@@ -62,16 +62,16 @@ place-new e (x ∷ xs) l = go (eqb (x .page) (e .page)) l (place-new e xs)
 abbrev Kept : ℕ → List ℕ → List ℕ → Type 0
 Kept e l l′ = (held l′ ≡ keep (unpack e) (held l)) × Buffer l′
 
-module _ (l : List ℕ) (e : ℕ) (b : Buffer l) {i : ℕ} (p : i ≡ indexOf (e / 4294967296) (held l)) where
+module _ (l : List ℕ) (e : ℕ) (b : Buffer l) {i : ℕ} (p : i ≡ indexOf (pageIn e) (held l)) where
   pub keep-same : i < count l → Kept e l (set l i e)
   unfolding keep roomIn fits
   keep-same h =
-      let q : indexOf (e / 4294967296) (held l) < length (held l) = rw (← p, length-held l b) h in
+      let q : indexOf (pageIn e) (held l) < length (held l) = rw (← p, length-held l b) h in
       let s : i < 64 = omega arith in
       (rw (has-found _ _ q, place-found (unpack e) (held l) q, ← p) (held-set l b e i s h), buffer-set l b e i s)
 
   module _ (h : count l ≤ i) where
-    new : length (held l) ≤ indexOf (e / 4294967296) (held l)
+    new : length (held l) ≤ indexOf (pageIn e) (held l)
     new = rw (← p, length-held l b) h
 
     pub keep-first : 64 ≤ count l → Kept e l (set (set l 0 e) 64 1)

@@ -4,3 +4,4 @@ pub mod Keeping
 pub mod Packing
 pub mod Entries
 pub mod Hits
+pub mod Packed

@@ -25,9 +25,25 @@ count l = getD l 64 0
 abbrev pub entry : ℕ → ℕ → Bool → Bool → Entry
 entry p f u w = record { page = p; frame = f; user = u; write = w }
 
--- the entry of a slot: page * 4294967296 + frame * 4096 + user right * 2 + write right
+-- an entry's number: page * pageUnit + frame * frameUnit + user right * 2 + write right
+abbrev pub pageUnit : ℕ
+pageUnit = 4294967296
+
+abbrev pub frameUnit : ℕ
+frameUnit = 4096
+
+-- the frames of the largest memory
+abbrev pub frames : ℕ
+frames = 32768
+
+abbrev pub pageIn : ℕ → ℕ
+pageIn w = w / pageUnit
+
+abbrev pub frameIn : ℕ → ℕ
+frameIn w = w / frameUnit % frames
+
 abbrev pub unpack : ℕ → Entry
-unpack w = entry (w / 4294967296) (w / 4096 % 32768) (bit 2 w) (bit 1 w)
+unpack w = entry (pageIn w) (frameIn w) (bit 2 w) (bit 1 w)
 
 -- the counted entries, in order
 unfoldable pub held : List ℕ → List Entry

@@ -1,9 +1,10 @@
 // Document 01, "Addresses": the page buffer, lent as one array of numbers.
 ghost use mathlib.Core.List.{[]};
 ghost use mathlib.Core.Path.{_≡_};
-ghost use Prim.Native.Nat.{_+_, _*_, _/_, _%_, _<_};
+ghost use Prim.Native.Nat.{_+_, _*_, _/_, _%_, _<_, _≤_};
+ghost use lib.ListN.{length, set};
 ghost use Rattle.paging.specs.Buffer.{serves, keep};
-ghost use Rattle.buffer.specs.Held.{entry, unpack, count, held, indexOf, slotHit, Buffer};
+ghost use Rattle.buffer.specs.Held.{slots, frames, pageIn, entry, unpack, count, held, indexOf, slotHit, Buffer};
 use paging::Access;
 use paging::Entry;
 
@@ -13,22 +14,29 @@ pub enum Hit {
     Miss,
 }
 
+// The layout of an entry's number: `page * PAGE_UNIT + frame * FRAME_UNIT`, and its rights.
+const PAGE_UNIT: u64 = 4294967296;
+
+const FRAME_UNIT: u64 = 4096;
+
+const FRAMES: u64 = 32768;
+
 // The number of an entry.
 pub fn pack(page: u32, frame: u32, user: bool, write: bool) -> u64
-    requires { ⌜ frame < 32768 ⌝ }
+    requires { ⌜ frame < frames ⌝ }
     ensures { λ r. ⌜ unpack r ≡ entry page frame user write ⌝ }
 {
-    page as u64 * 4294967296 + (frame as u64 * 4096 + (user as u64 * 2 + write as u64))
+    page as u64 * PAGE_UNIT + (frame as u64 * FRAME_UNIT + (user as u64 * 2 + write as u64))
 }
 
 // The entry of a number.
 pub fn unpack(e: u64) -> Entry
-    requires { ⌜ e / 4294967296 < 1048576 ⌝ }
+    requires { ⌜ pageIn e < 1048576 ⌝ }
     ensures { λ r. ⌜ r ≡ unpack e ⌝ }
 {
     Entry {
-        page: (e / 4294967296) as u32,
-        frame: (e / 4096 % 32768) as u32,
+        page: (e / PAGE_UNIT) as u32,
+        frame: (e / FRAME_UNIT % FRAMES) as u32,
         user: e / 2 % 2 == 1,
         write: e / 1 % 2 == 1,
     }
@@ -42,11 +50,19 @@ pub fn count(tlb: &[u64]) -> usize
     tlb[64] as usize
 }
 
+// Counts the first n entries.
+pub fn recount(tlb: &mut [u64], n: usize)
+    requires { ⌜ (n ≤ 64) × (length (now tlb) ≡ slots) ⌝ }
+    ensures { λ _. ⌜ now (tlb .exit) ≡ set (now (tlb .entry)) 64 n ⌝ }
+{
+    tlb[64] = n as u64;
+}
+
 // Whether the entry of a number serves an access.
 pub fn serves(e: u64, kind: Access, user: bool) -> bool
     ensures { λ r. ⌜ r ≡ serves (unpack e) kind user ⌝ }
 {
-    let write = walk::writes(kind);
+    let write = paging::writes(kind);
     (!user | (e / 2 % 2 == 1)) & (!write | (e / 1 % 2 == 1))
 }
 
@@ -59,9 +75,9 @@ pub fn slot(tlb: &[u64], i: usize, page: u64, kind: Access, user: bool) -> Hit
         return Hit::Miss;
     }
     let e = tlb[i];
-    let ok = (e / 4294967296 == page) & serves(e, kind, user);
+    let ok = (e / PAGE_UNIT == page) & serves(e, kind, user);
     if ok {
-        Hit::Frame((e / 4096 % 32768) as u32)
+        Hit::Frame((e / FRAME_UNIT % FRAMES) as u32)
     } else {
         Hit::Miss
     }
@@ -75,7 +91,7 @@ pub fn lookup(tlb: &[u64], page: u64) -> usize
     let n = count(tlb);
     let mut i = 0;
     while i < n {
-        if tlb[i] / 4294967296 == page {
+        if tlb[i] / PAGE_UNIT == page {
             return i;
         }
         i += 1;
@@ -85,7 +101,7 @@ pub fn lookup(tlb: &[u64], page: u64) -> usize
 
 // Keeps an entry whose page was looked up at `i`: in the place of the same page's, or after the others, or alone where there is no more room.
 pub fn keep(tlb: &mut [u64], i: usize, e: u64)
-    requires { ⌜ Buffer (now tlb) × (i ≡ indexOf (e / 4294967296) (held (now tlb))) ⌝ }
+    requires { ⌜ Buffer (now tlb) × (i ≡ indexOf (pageIn e) (held (now tlb))) ⌝ }
     ensures { λ _. ⌜ (held (now (tlb .exit)) ≡ keep (unpack e) (held (now (tlb .entry)))) × Buffer (now (tlb .exit)) ⌝ }
 {
     let n = count(tlb);

@@ -18,7 +18,7 @@ fn made_of(r: Ran) -> Made {
     let machine = r.machine;
     Made {
         machine,
-        number: refusals::run_number(answer),
+        number: rules::run_number(answer),
         steps: r.steps,
     }
 }

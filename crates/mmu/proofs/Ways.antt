@@ -24,7 +24,7 @@ use Rattle.walk.specs.Found.{Walked, walked, foundBy, walkedBy}
 use Rattle.walk.proofs.Bounds.{FrameIn, frame-in}
 use Rattle.buffer.specs.declared.Hit.{Hit}
 use Rattle.buffer.specs.declared.Hit.the-variants.{Frame, Miss}
-use Rattle.buffer.specs.Held.{entry, unpack, held, indexOf, slotHit, Buffer}
+use Rattle.buffer.specs.Held.{pageIn, frames, entry, unpack, held, indexOf, slotHit, Buffer}
 use Rattle.buffer.proofs.Hits.{slot-frame, slot-miss}
 use Rattle.mmu.specs.Good.{Good}
 use Rattle.mmu.specs.State.{state, seen, Refills, Translates}
@@ -61,7 +61,7 @@ frame-found n (found f′ u′ w′ da ta) {f} e h = let q : f′ ≡ f = cc in 
 
 -- a frame that a walk found has a number of fifteen bits
 pub frame-small : (m : List ℕ) (pdir page : ℕ) (k : Access) (user : Bool) {l m′ : List ℕ} {r : PageWalk} {f : ℕ} {u w : Bool}
-    → Good (length m) pdir l → walked r m′ ≡ walkedBy (walk m pdir page k user) → r ≡ Mapped f u w → f < 32768
+    → Good (length m) pdir l → walked r m′ ≡ walkedBy (walk m pdir page k user) → r ≡ Mapped f u w → f < frames
 unfolding walkedBy
 frame-small m pdir page k user {l} {m′} {r} {f} g p e =
     let i = frame-in m pdir page k user (g .directory .whole) in
@@ -69,8 +69,8 @@ frame-small m pdir page k user {l} {m′} {r} {f} g p e =
     omega (arith, g .directory .small)
 
 -- an entry is kept where its page was looked up
-pub kept-at : (es : List Entry) (e : ℕ) {i p f : ℕ} {u w : Bool} → unpack e ≡ entry p f u w → i ≡ indexOf p es → i ≡ indexOf (e / 4294967296) es
-kept-at es e {i} {p} k h = let s : e / 4294967296 ≡ p = ap (λ (x : Entry). x .page) k in rw s h
+pub kept-at : (es : List Entry) (e : ℕ) {i p f : ℕ} {u w : Bool} → unpack e ≡ entry p f u w → i ≡ indexOf p es → i ≡ indexOf (pageIn e) es
+kept-at es e {i} {p} k h = let s : pageIn e ≡ p = ap (λ (x : Entry). x .page) k in rw s h
 
 module _ (pdir : ℕ) (q : Request) (m l : List ℕ) (g : Good (length m) pdir l) (small : q .addr < 4294967296)
     {r : PageWalk} {m′ : List ℕ} (p : walked r m′ ≡ walkedBy (walk m pdir (q .addr / 4096) (q .kind) (q .user))) where

@@ -1,8 +1,23 @@
+// Document 01, "Addresses": what walk, page buffer and translation speak of.
+ghost use mathlib.Core.Path.{_≡_};
+ghost use Rattle.paging.specs.Walk.{isWrite};
+
 // What an access is for.
 pub enum Access {
     Fetch,
     Read,
     Write,
+}
+
+// Whether an access writes.
+pub fn writes(kind: Access) -> bool
+    ensures { λ r. ⌜ r ≡ isWrite kind ⌝ }
+{
+    match kind {
+        Access::Fetch => false,
+        Access::Read => false,
+        Access::Write => true,
+    }
 }
 
 // An entry of the page buffer.

@@ -1,6 +1,7 @@
 // Document 01, "The record and the loaded program": the record, in groups by who writes them.
 ghost use mathlib.Core.Path.{_≡_};
-ghost use Rattle.rules.specs.Record.{stopNumber};
+ghost use Rattle.rules.specs.Record.{stopNumber, isRunning};
+ghost use Rattle.rules.specs.Run.{runNumber, isAccepted};
 use paging::Entry;
 use paging::Space;
 
@@ -95,5 +96,47 @@ pub fn stop_number(stop: Stop) -> u32
         Stop::Halted => 1,
         Stop::Masked => 2,
         Stop::NoFrame => 3,
+    }
+}
+
+// Whether the machine has not stopped.
+pub fn is_running(s: Stop) -> bool
+    ensures { λ r. ⌜ r ≡ isRunning s ⌝ }
+{
+    match s {
+        Stop::Running => true,
+        Stop::Halted => false,
+        Stop::Masked => false,
+        Stop::NoFrame => false,
+    }
+}
+
+// The number of an answer.
+pub fn run_number(a: RunAnswer) -> u32
+    ensures { λ r. ⌜ r ≡ runNumber a ⌝ }
+{
+    match a {
+        RunAnswer::Accepted => 0,
+        RunAnswer::BadSize => 1,
+        RunAnswer::BadRegisters => 2,
+        RunAnswer::BadBuffer => 3,
+        RunAnswer::BadKeys => 4,
+        RunAnswer::BadConsole => 5,
+        RunAnswer::BadBudget => 6,
+    }
+}
+
+// Whether an answer is 0.
+pub fn is_accepted(a: RunAnswer) -> bool
+    ensures { λ r. ⌜ r ≡ isAccepted a ⌝ }
+{
+    match a {
+        RunAnswer::Accepted => true,
+        RunAnswer::BadSize => false,
+        RunAnswer::BadRegisters => false,
+        RunAnswer::BadBuffer => false,
+        RunAnswer::BadKeys => false,
+        RunAnswer::BadConsole => false,
+        RunAnswer::BadBudget => false,
     }
 }

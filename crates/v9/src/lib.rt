@@ -43,7 +43,7 @@ fn number_of(r: Ran) -> Numbered
     ensures { λ s. ⌜ (s .machine ≡ r .machine) × (s .number ≡ runNumber (r .answer)) ⌝ }
 {
     let a = r.answer;
-    let number = refusals::run_number(a);
+    let number = rules::run_number(a);
     let machine = r.machine;
     Numbered { machine, number }
 }

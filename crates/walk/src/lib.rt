@@ -4,7 +4,7 @@ ghost use mathlib.Core.Bool.{true};
 ghost use Prim.Native.Nat.{_+_, _<_, _≤_};
 ghost use lib.ListN.{length};
 ghost use Rattle.paging.specs.TrapCode.{pageFault};
-ghost use Rattle.paging.specs.Walk.{isWrite, bit, mark, markFor, userOk, writeOk, allows, walk};
+ghost use Rattle.paging.specs.Walk.{bit, mark, markFor, userOk, writeOk, allows, walk};
 ghost use Rattle.walk.specs.Directory.{Directory};
 ghost use Rattle.walk.specs.Found.{isMark, walked, walkedBy, FrameWalk, TableWalk};
 use paging::Access;
@@ -18,17 +18,6 @@ pub enum PageWalk {
     Mapped { frame: u32, user: bool, write: bool },
     // The code of a fault.
     Faulted(u32),
-}
-
-// Whether an access writes.
-pub fn writes(kind: Access) -> bool
-    ensures { λ r. ⌜ r ≡ isWrite kind ⌝ }
-{
-    match kind {
-        Access::Fetch => false,
-        Access::Read => false,
-        Access::Write => true,
-    }
 }
 
 // The page fault of an access.
@@ -67,7 +56,7 @@ fn mark_for(mem: &mut [u8], at: usize, kind: Access)
     ensures { λ _. ⌜ now (mem .exit) ≡ markFor kind (now (mem .entry)) at ⌝ }
 {
     mark(mem, at, 32);
-    let write = writes(kind);
+    let write = paging::writes(kind);
     if write {
         mark(mem, at, 64);
     }
@@ -84,7 +73,7 @@ fn user_ok(dir: u32, table: u32, user: bool) -> bool
 fn write_ok(dir: u32, table: u32, kind: Access) -> bool
     ensures { λ r. ⌜ r ≡ writeOk dir table kind ⌝ }
 {
-    !writes(kind) | (bit(2, dir) & bit(2, table))
+    !paging::writes(kind) | (bit(2, dir) & bit(2, table))
 }
 
 // Whether a table word allows an access.

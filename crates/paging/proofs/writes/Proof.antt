@@ -1,9 +1,9 @@
--- `walk::writes` meets its contract. Assumes nothing.
+-- `paging::writes` meets its contract. Assumes nothing.
 use mathlib.Core.Path.{sym, ap}
 use borrow.Author.Needs.{needs}
 use Rattle.paging.specs.Walk.{isWrite}
-use Rattle.walk.proofs.writes.Statement.{statement}
-use Rattle.walk.proofs.writes.Tie as tie
+use Rattle.paging.proofs.writes.Statement.{statement}
+use Rattle.paging.proofs.writes.Tie as tie
 
 enum-told : tie.Need-enum-told
 enum-told c = search needs
