@@ -1,3 +1,4 @@
 pub mod Slots
 pub mod Order
 pub mod Views
+pub mod Turns

@@ -1,57 +1,15 @@
-// Document 01, "Numbers returned": a run's refusals, and the numbers of its answers.
+// Document 01, "Numbers returned": a run's refusals.
 ghost use mathlib.Core.Path.{_≡_};
-ghost use Rattle.rules.specs.Record.{isRunning};
-ghost use Rattle.rules.specs.Run.{runNumber, isAccepted, registersOk};
-ghost use Rattle.paging.specs.Buffer.{bufferOk};
-ghost use Rattle.refusals.specs.View.{firstSlots};
+ghost use Prim.Native.Nat.{_≤_};
+ghost use lib.ListN.{take, drop};
+ghost use Rattle.rules.specs.Run.{registersOk};
+ghost use Rattle.paging.specs.Buffer.{has, entryPage, entryOk, bufferOk};
+ghost use Rattle.refusals.specs.View.{entriesOf};
 ghost use Rattle.refusals.specs.Refusal.{refusalOf};
 use paging::Entry;
 use rules::Cpu;
 use rules::Machine;
 use rules::RunAnswer;
-use rules::Stop;
-
-// The number of an answer.
-pub fn run_number(a: RunAnswer) -> u32
-    ensures { λ r. ⌜ r ≡ runNumber a ⌝ }
-{
-    match a {
-        RunAnswer::Accepted => 0,
-        RunAnswer::BadSize => 1,
-        RunAnswer::BadRegisters => 2,
-        RunAnswer::BadBuffer => 3,
-        RunAnswer::BadKeys => 4,
-        RunAnswer::BadConsole => 5,
-        RunAnswer::BadBudget => 6,
-    }
-}
-
-// Whether an answer is 0.
-pub fn is_accepted(a: RunAnswer) -> bool
-    ensures { λ r. ⌜ r ≡ isAccepted a ⌝ }
-{
-    match a {
-        RunAnswer::Accepted => true,
-        RunAnswer::BadSize => false,
-        RunAnswer::BadRegisters => false,
-        RunAnswer::BadBuffer => false,
-        RunAnswer::BadKeys => false,
-        RunAnswer::BadConsole => false,
-        RunAnswer::BadBudget => false,
-    }
-}
-
-// Whether the machine has not stopped.
-pub fn is_running(s: Stop) -> bool
-    ensures { λ r. ⌜ r ≡ isRunning s ⌝ }
-{
-    match s {
-        Stop::Running => true,
-        Stop::Halted => false,
-        Stop::Masked => false,
-        Stop::NoFrame => false,
-    }
-}
 
 // Whether the registers pass refusal 2, in memory of `size` bytes.
 pub fn registers_ok(size: usize, c: Cpu) -> bool
@@ -67,11 +25,59 @@ pub fn registers_ok(size: usize, c: Cpu) -> bool
         & (c.regs.count < 0x8000_0000_0000_0000)
 }
 
-// Whether a record's slots and their count pass refusal 3.
-pub fn slots_ok(slots: [Entry; 64], n: usize, size: usize) -> bool
-    ensures { λ r. ⌜ r ≡ bufferOk size (firstSlots n slots) ⌝ }
+// Whether an entry's page and frame pass refusal 3.
+fn entry_ok(e: Entry, size: usize) -> bool
+    ensures { λ r. ⌜ r ≡ entryOk size e ⌝ }
 {
-    entries::buffer_ok(slots, n, size)
+    (e.page < 1048576) & ((e.frame as usize) < size / 4096)
+}
+
+// Whether one of the first n slots, from slot `from` on, has a page.
+fn has_page(slots: [Entry; 64], n: usize, from: usize, page: u32) -> bool
+    requires { ⌜ n ≤ 64 ⌝ }
+    ensures { λ r. ⌜ r ≡ has entryPage page (drop from (take n slots)) ⌝ }
+{
+    let mut i = from;
+    while i < n {
+        let e = slots[i];
+        if e.page == page {
+            return true;
+        }
+        i += 1;
+    }
+    false
+}
+
+// Whether a record's slots and their count pass refusal 3, tested from the last counted slot on. A page is searched for among the slots after its own only
+// where one of them has a page of the same remainder by 256.
+fn slots_ok(m: Machine, size: usize) -> bool
+    ensures { λ r. ⌜ r ≡ bufferOk size (entriesOf m) ⌝ }
+{
+    let n = m.held;
+    if n > 64 {
+        return false;
+    }
+    let mut seen = [false; 256];
+    let mut left = n;
+    while 0 < left {
+        let i = left - 1;
+        let e = m.entries[i];
+        let ok = entry_ok(e, size);
+        if !ok {
+            return false;
+        }
+        let k = (e.page % 256) as usize;
+        if seen[k] {
+            let slots = m.entries;
+            let twice = has_page(slots, n, left, e.page);
+            if twice {
+                return false;
+            }
+        }
+        seen[k] = true;
+        left = i;
+    }
+    true
 }
 
 // The first refusal that holds of a run, or its acceptance.
@@ -91,8 +97,7 @@ pub fn refusal(
     if !registers_ok(size, m.cpu) {
         return RunAnswer::BadRegisters;
     }
-    let slots = m.entries;
-    if !slots_ok(slots, m.held, size) {
+    if !slots_ok(m, size) {
         return RunAnswer::BadBuffer;
     }
     if !(rising & (m.cpu.clock.taken <= keys)) {

@@ -24,14 +24,11 @@ use Rattle.refusals.specs.Refusal.{refusalOf}
 use Rattle.refusals.specs.View.{firstSlots, entriesOf, viewOf}
 use Rattle.runs.specs.declared.Going.{Going}
 use Rattle.runs.specs.declared.Ran.{Ran}
-use Rattle.runs.specs.Advance.{Fits, Goes, endOf, leftOf}
+use Rattle.runs.specs.Advance.{Goes, endOf, leftOf}
 use Rattle.runs.specs.Going.{Able, Proceeds, beginOf}
 use Rattle.runs.proofs.Entries.{unpacked-first}
 
 module _ {g : Going} {size : ℕ} (b : Able g size) where
-  pub able-fits : Fits (entriesOf (g .ran .machine))
-  able-fits = record { size = size; small = b .directory .small; passes = b .entries }
-
   pub able-key : {key : Bool} → KeyFits key (g .taken) → KeyFits key (g .ran .machine .cpu .clock .taken)
   able-key {key} f = subst (λ (i : ℕ). KeyFits key i) (b .taken) f
 
@@ -52,18 +49,14 @@ module _ {g : Going} {m : List ℕ} (b : Able g (length m)) {l : List ℕ} (h : 
       first : firstSlots n es ≡ held l′
       first = rw c (unpacked-first l′ es (t .good .buffer) e)
 
-      abbrev on : Going
-      on = record {
+      abbrev gone : Machine → Going
+      gone x = record {
         taken = a .cpu .clock .taken;
         left = a .left;
-        ran = record {
-          machine = record { cpu = a .cpu; entries = es; held = n };
-          answer = g .ran .answer;
-          steps = g .ran .steps + (a .cpu .regs .count - g .ran .machine .cpu .regs .count);
-        };
+        ran = record { machine = x; answer = g .ran .answer; steps = g .ran .steps + (a .cpu .regs .count - g .ran .machine .cpu .regs .count) };
       }
 
-      pub proceeds : Proceeds g k m con on m′ con′
+      proceeds : Proceeds g k m con (gone (record { cpu = a .cpu; entries = es; held = n })) m′ con′
       proceeds = record {
         able = λ s. record {
           directory = t .good .directory;
@@ -82,6 +75,14 @@ module _ {g : Going} {m : List ℕ} (b : Able g (length m)) {l : List ℕ} (h : 
             ∙ t .same ks (ap (nextOf ks) (sym (b .taken)) ∙ z)
             ∙ ap (λ (xs : List Entry). endOf ks (a .left) (record { cpu = a .cpu; mem = m′; console = con′; buffer = xs })) (sym first);
       }
+
+      -- of a record x that was changed in place
+      pub proceeds-in-place : (x : Machine) → x .entries ≡ es → x .cpu ≡ a .cpu → x .held ≡ n → Proceeds g k m con (gone x) m′ con′
+      proceeds-in-place x p q r = subst (λ (y : Machine). Proceeds g k m con (gone y) m′ con′)
+          (sym (ap (λ (d : Cpu). record { cpu = d; entries = x .entries; held = x .held }) q
+          ∙ ap (λ (i : ℕ). record { cpu = a .cpu; entries = x .entries; held = i }) r
+          ∙ ap (λ (xs : List Entry). record { cpu = a .cpu; entries = xs; held = n }) p))
+          proceeds
 
 -- how a run begins
 pub begins : (m : Machine) (size room : ℕ) (rising : Bool) (keys budget : ℕ) {a : RunAnswer} {n i : ℕ} → a ≡ refusalOf m size room rising keys budget

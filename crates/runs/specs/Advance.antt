@@ -1,12 +1,10 @@
 -- Document 01, "One step": a run goes on until its next key is taken, or to its end.
 use Prim.Native.Nat.{ℕ, _+_, _≤_, _<_}
 use mathlib.Core.Path.{_≡_}
-use mathlib.Core.Bool.{true}
 use mathlib.Core.List.{List}
 use lib.ListN.{length}
 use Rattle.word.specs.Word.{if_then_else_}
 use Rattle.paging.specs.declared.Entry.{Entry}
-use Rattle.paging.specs.Buffer.{bufferOk}
 use Rattle.paging.specs.Translate.{buffered}
 use Rattle.mmu.specs.Good.{Good}
 use Rattle.rules.specs.declared.Cpu.{Cpu}
@@ -28,12 +26,6 @@ leftOf s n = if isRunning s then n else 0
 -- where at most n steps from a state end
 abbrev pub endOf : List Key → ℕ → State (List Entry) → State (List Entry)
 endOf ks n s = lastOf s (stepsOf buffered ks n s)
-
--- entries that refusal 3 lets pass, in memory of some size
-pub record Fits (es : List Entry) : Type 0 where
-  pub size : ℕ
-  pub small : size ≤ 134217728
-  pub passes : bufferOk size es ≡ true
 
 -- the end of a run from the record c, with `left` steps and the next key k, is that of the run from g: at least one step was made
 pub record Goes (c : Cpu) (left : ℕ) (k : Next) (m con l : List ℕ) (g : Advanced) (m′ con′ l′ : List ℕ) : Type 0 where

@@ -1,15 +1,12 @@
 // Document 01, "Numbers returned": a run begins, refused or accepted, and goes on from key to key.
 ghost use mathlib.Core.Path.{_≡_};
 ghost use lib.ListN.{length};
-ghost use Rattle.buffer.specs.Held.{slots, held, Buffer};
 ghost use Rattle.clock.specs.Due.{KeyFits};
 ghost use Rattle.machine.specs.Advance.{Ready};
 ghost use Rattle.rules.specs.Run.{allowance};
-ghost use Rattle.refusals.specs.View.{firstSlots};
-ghost use Rattle.runs.specs.Advance.{leftOf, Fits, Goes};
+ghost use Rattle.runs.specs.Advance.{leftOf, Goes};
 ghost use Rattle.runs.specs.Going.{beginOf, Able, Proceeds};
 use machine::Going as Advanced;
-use paging::Entry;
 use rules::Cpu;
 use rules::Machine;
 use rules::Next;
@@ -34,7 +31,7 @@ pub struct Going {
 fn left_of(s: Stop, n: u64) -> u64
     ensures { λ r. ⌜ r ≡ leftOf s n ⌝ }
 {
-    if refusals::is_running(s) {
+    if rules::is_running(s) {
         return n;
     }
     0
@@ -44,7 +41,7 @@ fn left_of(s: Stop, n: u64) -> u64
 fn allowance(a: RunAnswer, budget: u64) -> u64
     ensures { λ r. ⌜ r ≡ allowance a budget ⌝ }
 {
-    if refusals::is_accepted(a) {
+    if rules::is_accepted(a) {
         return budget;
     }
     0
@@ -65,14 +62,6 @@ pub fn begin(m: Machine, size: usize, room: usize, rising: bool, keys: usize, bu
         steps: 0,
     };
     Going { taken, left, ran }
-}
-
-// The counted entries of a record, into the lent array.
-fn hold(entries: [Entry; 64], n: usize, tlb: &mut [u64])
-    requires { ⌜ Fits (firstSlots n entries) × (length (now tlb) ≡ slots) ⌝ }
-    ensures { λ _. ⌜ (held (now (tlb .exit)) ≡ firstSlots n entries) × Buffer (now (tlb .exit)) ⌝ }
-{
-    entries::pack_entries(entries, n, tlb);
 }
 
 // Steps until the next key is taken, or to the end of the run.
@@ -99,7 +88,8 @@ fn go(
     Advanced { cpu: x, left: n }
 }
 
-// A run that goes on, until its next key is taken, or to its end.
+// A run that goes on, until its next key is taken, or to its end: its entries go into a lent array, and come back in place. The hint is told where each
+// stands. Both loops are written out here, as each pass of the record by value costs 100 instructions.
 pub fn proceed(g: Going, mem: &mut [u8], console: &mut [u8], next: Next) -> Going
     requires { ⌜ Able g (length (now mem)) × KeyFits (next .some) (g .taken) ⌝ }
     ensures { λ r. ⌜ Proceeds g next (now (mem .entry)) (now (console .entry)) r (now (mem .exit)) (now (console .exit)) ⌝ }
@@ -107,23 +97,31 @@ pub fn proceed(g: Going, mem: &mut [u8], console: &mut [u8], next: Next) -> Goin
     let mut tlb = [0u64; 65];
     let mut hint = [0u8; 256];
     let r = g.ran;
-    let m = r.machine;
-    let c = m.cpu;
-    let entries = m.entries;
-    hold(entries, m.held, &mut tlb);
+    let mut n = r.machine;
+    let c = n.cpu;
+    let held = n.held;
+    let mut i = 0;
+    while i < held {
+        let e = n.entries[i];
+        tlb[i] = buffer::pack(e.page, e.frame, e.user, e.write);
+        hint[(e.page % 256) as usize] = i as u8;
+        i += 1;
+    }
+    buffer::recount(&mut tlb, held);
     let a = go(c, g.left, next, mem, console, &mut tlb, &mut hint);
     let x = a.cpu;
     let steps = r.steps + (x.regs.count - c.regs.count);
-    let slots = entries::unpack_entries(&tlb);
-    let held = buffer::count(&tlb);
-    let machine = Machine {
-        cpu: x,
-        entries: slots,
-        held,
-    };
+    let count = buffer::count(&tlb);
+    n.cpu = x;
+    n.held = count;
+    let mut j = 0;
+    while j < count {
+        n.entries[j] = buffer::unpack(tlb[j]);
+        j += 1;
+    }
     let answer = r.answer;
     let ran = Ran {
-        machine,
+        machine: n,
         answer,
         steps,
     };

@@ -23,19 +23,19 @@ slots-ok-requires : tie.Need-slots-ok-requires
 slots-ok-requires c κs = search needs
 
 returns-3 : tie.Need-returns-3
-returns-3 c = bad-buffer _ _ _ _ _ _ (sym (c .before .before .before .before .before .before .size-ok .ensures) ∙ not-false _ (c .before .before .before .before .before .if1 .left)) (sym (c .before .before .before .before .registers-ok .ensures) ∙ not-false _ (c .before .before .before .if2 .left)) (sym (c .before .slots-ok .ensures) ∙ not-true _ (c .if3 .taken))
+returns-3 c = bad-buffer _ _ _ _ _ _ (sym (c .before .before .before .before .before .size-ok .ensures) ∙ not-false _ (c .before .before .before .before .if1 .left)) (sym (c .before .before .before .registers-ok .ensures) ∙ not-false _ (c .before .before .if2 .left)) (sym (c .before .slots-ok .ensures) ∙ not-true _ (c .if3 .taken))
 
 returns-4 : tie.Need-returns-4
-returns-4 c = bad-keys _ _ _ _ _ _ (sym (c .before .before .before .before .before .before .before .before .size-ok .ensures) ∙ not-false _ (c .before .before .before .before .before .before .before .if1 .left)) (sym (c .before .before .before .before .before .before .registers-ok .ensures) ∙ not-false _ (c .before .before .before .before .before .if2 .left)) (sym (c .before .before .before .slots-ok .ensures) ∙ not-false _ (c .before .before .if3 .left)) (not-true _ (c .if4 .taken))
+returns-4 c = bad-keys _ _ _ _ _ _ (sym (c .before .before .before .before .before .before .before .size-ok .ensures) ∙ not-false _ (c .before .before .before .before .before .before .if1 .left)) (sym (c .before .before .before .before .before .registers-ok .ensures) ∙ not-false _ (c .before .before .before .before .if2 .left)) (sym (c .before .before .before .slots-ok .ensures) ∙ not-false _ (c .before .before .if3 .left)) (not-true _ (c .if4 .taken))
 
 returns-5 : tie.Need-returns-5
-returns-5 c = bad-console _ _ _ _ _ _ (sym (c .before .before .before .before .before .before .before .before .before .before .size-ok .ensures) ∙ not-false _ (c .before .before .before .before .before .before .before .before .before .if1 .left)) (sym (c .before .before .before .before .before .before .before .before .registers-ok .ensures) ∙ not-false _ (c .before .before .before .before .before .before .before .if2 .left)) (sym (c .before .before .before .before .before .slots-ok .ensures) ∙ not-false _ (c .before .before .before .before .if3 .left)) (not-false _ (c .before .before .if4 .left)) (not-true _ (c .if5 .taken))
+returns-5 c = bad-console _ _ _ _ _ _ (sym (c .before .before .before .before .before .before .before .before .before .size-ok .ensures) ∙ not-false _ (c .before .before .before .before .before .before .before .before .if1 .left)) (sym (c .before .before .before .before .before .before .before .registers-ok .ensures) ∙ not-false _ (c .before .before .before .before .before .before .if2 .left)) (sym (c .before .before .before .before .before .slots-ok .ensures) ∙ not-false _ (c .before .before .before .before .if3 .left)) (not-false _ (c .before .before .if4 .left)) (not-true _ (c .if5 .taken))
 
 returns-6 : tie.Need-returns-6
-returns-6 c = bad-budget _ _ _ _ _ _ (sym (c .before .before .before .before .before .before .before .before .before .before .before .size-ok .ensures) ∙ not-false _ (c .before .before .before .before .before .before .before .before .before .before .if1 .left)) (sym (c .before .before .before .before .before .before .before .before .before .registers-ok .ensures) ∙ not-false _ (c .before .before .before .before .before .before .before .before .if2 .left)) (sym (c .before .before .before .before .before .before .slots-ok .ensures) ∙ not-false _ (c .before .before .before .before .before .if3 .left)) (not-false _ (c .before .before .before .if4 .left)) (not-false _ (c .before .if5 .left)) (not-true _ (c .if6 .taken))
+returns-6 c = bad-budget _ _ _ _ _ _ (sym (c .before .before .before .before .before .before .before .before .before .before .size-ok .ensures) ∙ not-false _ (c .before .before .before .before .before .before .before .before .before .if1 .left)) (sym (c .before .before .before .before .before .before .before .before .registers-ok .ensures) ∙ not-false _ (c .before .before .before .before .before .before .before .if2 .left)) (sym (c .before .before .before .before .before .before .slots-ok .ensures) ∙ not-false _ (c .before .before .before .before .before .if3 .left)) (not-false _ (c .before .before .before .if4 .left)) (not-false _ (c .before .if5 .left)) (not-true _ (c .if6 .taken))
 
 returns-7 : tie.Need-returns-7
-returns-7 c = accepted _ _ _ _ _ _ (sym (c .before .before .before .before .before .before .before .before .before .before .before .size-ok .ensures) ∙ not-false _ (c .before .before .before .before .before .before .before .before .before .before .if1 .left)) (sym (c .before .before .before .before .before .before .before .before .before .registers-ok .ensures) ∙ not-false _ (c .before .before .before .before .before .before .before .before .if2 .left)) (sym (c .before .before .before .before .before .before .slots-ok .ensures) ∙ not-false _ (c .before .before .before .before .before .if3 .left)) (not-false _ (c .before .before .before .if4 .left)) (not-false _ (c .before .if5 .left)) (not-false _ (c .if6 .left))
+returns-7 c = accepted _ _ _ _ _ _ (sym (c .before .before .before .before .before .before .before .before .before .before .size-ok .ensures) ∙ not-false _ (c .before .before .before .before .before .before .before .before .before .if1 .left)) (sym (c .before .before .before .before .before .before .before .before .registers-ok .ensures) ∙ not-false _ (c .before .before .before .before .before .before .before .if2 .left)) (sym (c .before .before .before .before .before .before .slots-ok .ensures) ∙ not-false _ (c .before .before .before .before .before .if3 .left)) (not-false _ (c .before .before .before .if4 .left)) (not-false _ (c .before .if5 .left)) (not-false _ (c .if6 .left))
 
 pub refusal-spec : {M : Type 1} → statement M
 refusal-spec =

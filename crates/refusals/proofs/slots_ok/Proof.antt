@@ -1,15 +1,89 @@
 -- `refusals::slots_ok` meets its contract. Assumes nothing.
-use Rattle.refusals.proofs.Slots.{slots-ok}
-use mathlib.Core.Path.{_∙_}
+use Prim.Native.Nat.{_≤_}
+use native.Mathlib.Omega.{arith}
+use mathlib.Core.Path.{_≡_, refl, sym, _∙_}
+use mathlib.Core.Logic.{⊎-elim}
+use lib.ListN.{length, length-map}
 use borrow.Author.Needs.{needs}
+use borrow.Author.Tests.{not-true, not-false}
+use Rattle.refusals.proofs.Turns.{Passed, slots-many, none-passed, all-passed, entry-fails, page-twice, entry-passes, entry-new}
 use Rattle.refusals.proofs.slots_ok.Statement.{statement}
 use Rattle.refusals.proofs.slots_ok.Tie as tie
 
-buffer-ok-requires : tie.Need-buffer-ok-requires
-buffer-ok-requires c κs = search needs
+abbrev Inv-loop : tie.InvT-loop
+Inv-loop size m n seen₀ left₀ seen left = (z : length (m .entries) ≡ 64) × ((few : n ≤ 64) × Passed n (m .entries) z few size left seen)
 
-returns : tie.Need-returns
-returns c = c .buffer-ok .ensures ∙ slots-ok _ _ _ (c .before .good .0 .1 .0 .1)
+abbrev μ-loop : tie.MeasureT-loop
+μ-loop size m n seen₀ left₀ seen left = left
+
+returns : tie.Need-returns Inv-loop μ-loop
+returns c = slots-many _ _ _ (omega (arith, c .if1 .taken))
+
+loop-holds : tie.Need-loop-holds Inv-loop μ-loop
+loop-holds c = (sym (length-map (c .before .args .t1 .entries) _) ∙ c .before .good .0 .1 .1 .1 .0 .1 .0 .1, (search needs, none-passed _ _ _ _ _ _ refl))
+
+sub-i : tie.Need-sub-i Inv-loop μ-loop
+sub-i c = search needs
+
+mul-e : tie.Need-mul-e Inv-loop μ-loop
+mul-e c = search needs
+
+element-copy-out-e : tie.Need-element-copy-out-e Inv-loop μ-loop
+element-copy-out-e c = omega (arith, c .before .loop .inv .1 .0, c .before .loop .inv .1 .1 .least)
+
+entry-ok-requires : tie.Need-entry-ok-requires Inv-loop μ-loop
+entry-ok-requires c κs = search needs
+
+returns-2 : tie.Need-returns-2 Inv-loop μ-loop
+returns-2 c = entry-fails _ _ _ _ _ _ (c .before .before .before .before .loop .inv .1 .1) (c .before .before .before .loop-test .taken) (c .before .entry-ok .ensures) (not-true _ (c .if2 .taken))
+
+cast-k : tie.Need-cast-k Inv-loop μ-loop
+cast-k c = search needs
+
+array-read-if3 : tie.Need-array-read-if3 Inv-loop μ-loop
+array-read-if3 c = omega arith
+
+has-page-requires : tie.Need-has-page-requires Inv-loop μ-loop
+has-page-requires c κs = c .before .before .before .before .before .before .before .loop .inv .1 .0
+
+returns-3 : tie.Need-returns-3 Inv-loop μ-loop
+returns-3 c = page-twice _ _ _ _ _ _ (c .before .before .before .before .before .before .before .before .before .loop .inv .1 .1) (c .before .before .before .before .before .before .before .before .loop-test .taken) (c .before .before .before .before .before .before .entry-ok .ensures) (not-false _ (c .before .before .before .before .before .if2 .left)) (sym (c .before .has-page .ensures) ∙ c .if4 .taken)
+
+array-write-seen : tie.Need-array-write-seen Inv-loop μ-loop
+array-write-seen c = omega arith
+
+loop-less : tie.Need-loop-less Inv-loop μ-loop
+loop-less c = search needs
+
+loop-again : tie.Need-loop-again Inv-loop μ-loop
+loop-again c =
+    let i = c .before .before .before .before .before .before .loop .inv in
+    let t = c .before .before .before .before .before .loop-test .taken in
+    let e = c .before .before .before .entry-ok .ensures in
+    let o = not-false _ (c .before .before .if2 .left) in
+    (i .0, (i .1 .0, ⊎-elim (λ t₃. entry-passes _ _ _ _ _ _ (i .1 .1) t e o (sym (t₃ .2 .ensures) ∙ t₃ .3 .left)) (λ e₃. entry-new _ _ _ _ _ _ (i .1 .1) t e o (e₃ .left)) (c .if3 .came)))
+
+returns-4 : tie.Need-returns-4 Inv-loop μ-loop
+returns-4 c = all-passed _ _ _ _ _ _ (c .before .loop .inv .1 .1) (c .loop-test .left)
 
 pub slots-ok-spec : {M : Type 1} → statement M
-slots-ok-spec = tie.close (tie.spec buffer-ok-requires returns)
+slots-ok-spec =
+    tie.close
+    (tie.spec
+    Inv-loop
+    μ-loop
+    returns
+    loop-holds
+    sub-i
+    mul-e
+    element-copy-out-e
+    entry-ok-requires
+    returns-2
+    cast-k
+    array-read-if3
+    has-page-requires
+    returns-3
+    array-write-seen
+    loop-less
+    loop-again
+    returns-4)

@@ -1,9 +1,9 @@
--- `entries::entry_ok` meets its contract. Assumes nothing.
+-- `refusals::entry_ok` meets its contract. Assumes nothing.
 use mathlib.Core.Path.{refl}
 use borrow.Author.Needs.{needs}
 use Rattle.paging.specs.Buffer.{entryOk}
-use Rattle.entries.proofs.entry_ok.Statement.{statement}
-use Rattle.entries.proofs.entry_ok.Tie as tie
+use Rattle.refusals.proofs.entry_ok.Statement.{statement}
+use Rattle.refusals.proofs.entry_ok.Tie as tie
 
 cast-result : tie.Need-cast-result
 cast-result c = search needs

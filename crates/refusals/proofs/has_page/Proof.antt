@@ -1,19 +1,18 @@
--- `entries::has_page` meets its contract. Assumes nothing.
+-- `refusals::has_page` meets its contract. Assumes nothing.
 use Prim.Native.Nat.{_-_}
 use mathlib.Core.Path.{_≡_, refl, sym}
-use lib.ListN.{drop}
+use lib.ListN.{take, drop}
 use borrow.Author.Needs.{needs}
 use Rattle.paging.specs.Buffer.{has, entryPage}
-use Rattle.entries.proofs.Turns.{page-here, page-next, page-nowhere}
-use Rattle.entries.specs.Counted.{counted}
-use Rattle.entries.proofs.has_page.Statement.{statement}
-use Rattle.entries.proofs.has_page.Tie as tie
+use Rattle.refusals.proofs.Turns.{page-here, page-next, page-nowhere}
+use Rattle.refusals.proofs.has_page.Statement.{statement}
+use Rattle.refusals.proofs.has_page.Tie as tie
 
 abbrev Inv-loop : tie.InvT-loop
-Inv-loop n from page entries i₀ i = has entryPage page (drop from (counted n entries)) ≡ has entryPage page (drop i (counted n entries))
+Inv-loop n from page slots i₀ i = has entryPage page (drop from (take n slots)) ≡ has entryPage page (drop i (take n slots))
 
 abbrev μ-loop : tie.MeasureT-loop
-μ-loop n from page entries i₀ i = n - i
+μ-loop n from page slots i₀ i = n - i
 
 loop-holds : tie.Need-loop-holds Inv-loop μ-loop
 loop-holds c = refl
