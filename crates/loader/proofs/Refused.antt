@@ -8,7 +8,7 @@ use Rattle.executable.specs.declared.LoadAnswer.the-variants.{Accepted, BadSize
 use Rattle.executable.specs.Executable.{loadNumber, loadAnswer}
 use Rattle.rules.specs.Load.{Loaded, zeroCpu, emptyMachine, loadBy, load}
 use Rattle.loader.specs.declared.Loaded.{Loaded as Result}
-use Rattle.loader.specs.Loader.{loadedWith}
+use Rattle.loader.specs.Loader.{loadedWith, LoadsAs}
 
 -- a load gave r and left mem′
 module _ (file mem : List ℕ) {r : Result} {mem′ : List ℕ} where
@@ -23,6 +23,6 @@ module _ (file mem : List ℕ) {r : Result} {mem′ : List ℕ} where
   refused-as BadDataStart e h = (ap (λ (l : Loaded). l .machine) e, ap (λ (l : Loaded). l .mem) e)
   refused-as BadEntry e h = (ap (λ (l : Loaded). l .machine) e, ap (λ (l : Loaded). l .mem) e)
 
-  pub refused-load : loadedWith r mem′ ≡ load file mem → (loadNumber (r .answer) ≡ 0 → ⊥) → (r .machine ≡ emptyMachine zeroCpu) × (mem′ ≡ mem)
+  pub refused-load : LoadsAs file mem r mem′ → (loadNumber (r .answer) ≡ 0 → ⊥) → (r .machine ≡ emptyMachine zeroCpu) × (mem′ ≡ mem)
   unfolding load
-  refused-load = refused-as (loadAnswer (length mem) file)
+  refused-load l = refused-as (loadAnswer (length mem) file) (l .same)

@@ -1,7 +1,7 @@
 -- Document 01, "Numbers returned": "A refused run returns the record given and zero steps; memory and console keep their bytes", of each entry, by its
 -- contract; and "accepted with zero steps and no change". Assumes nothing.
 use Prim.Native.Nat.{ℕ}
-use mathlib.Core.Path.{_≡_, refl, sym, _∙_, ap}
+use mathlib.Core.Path.{_≡_, refl, _∙_, ap}
 use mathlib.Core.Bool.{false}
 use mathlib.Core.List.{List}
 use Rattle.paging.specs.declared.Entry.{Entry}
@@ -15,6 +15,7 @@ use Rattle.rules.specs.Step.{State}
 use Rattle.rules.specs.Run.{runNumber, isAccepted, run, reported}
 use Rattle.rules.proofs.NoSteps.{NoSteps, refused-run, stopped-run, unbudgeted-run}
 use Rattle.refusals.specs.View.{viewOf}
+use Rattle.runs.specs.declared.Ran.{Ran}
 use Rattle.v9.specs.Contract.{RunsAs, StepsAs}
 
 -- the record x is the one given, its slots included, and memory and console are as they were
@@ -22,29 +23,6 @@ pub record Unchanged (m : Machine) (mem con : List ℕ) (x : Machine) (mem′ co
   pub machine : x ≡ m
   pub memory : mem′ ≡ mem
   pub console : con′ ≡ con
-
--- ---- `v9::run`, `v9::run_packed`
-
-module _ {ks : List Key} {budget : ℕ} {m : Machine} {mem con : List ℕ} {a : RunAnswer} {n : ℕ} {x : Machine} {mem′ con′ : List ℕ}
-    (r : RunsAs ks budget m mem con a n x mem′ con′) where
-  -- where the rules make no step
-  unchanged : NoSteps buffered ks budget (viewOf m mem con) → (n ≡ 0) × Unchanged m mem con x mem′ con′
-  unchanged o =
-      let z = r .steps ∙ o .none in
-      let e = r .state ∙ o .same in
-      (z, record { machine = r .same z; memory = ap (λ (s : State (List Entry)). s .mem) e; console = ap (λ (s : State (List Entry)). s .console) e })
-
-  pub refused-unchanged : isAccepted a ≡ false → (n ≡ 0) × Unchanged m mem con x mem′ con′
-  refused-unchanged e = unchanged (refused-run buffered ks budget (viewOf m mem con) (sym (ap (λ (b : RunAnswer). isAccepted b) (r .answer)) ∙ e))
-
-  -- "starts stopped, or has budget 0"
-  pub stopped-unchanged : isRunning (m .cpu .stop) ≡ false → (n ≡ 0) × Unchanged m mem con x mem′ con′
-  stopped-unchanged e = unchanged (stopped-run buffered ks budget (viewOf m mem con) e)
-
-  pub unbudgeted-unchanged : budget ≡ 0 → (n ≡ 0) × Unchanged m mem con x mem′ con′
-  unbudgeted-unchanged e = unchanged (unbudgeted-run buffered ks budget (viewOf m mem con) e)
-
--- ---- `v9::single_step`
 
 -- an answer whose number is not 0 refuses
 refusing : (a : RunAnswer) → (runNumber a ≡ 0 → ⊥) → isAccepted a ≡ false
@@ -55,6 +33,29 @@ refusing BadBuffer h = refl
 refusing BadKeys h = refl
 refusing BadConsole h = refl
 refusing BadBudget h = refl
+
+-- ---- `v9::run`, `v9::run_packed`
+
+module _ {ks : List Key} {budget : ℕ} {m : Machine} {mem con : List ℕ} {g : Ran} {mem′ con′ : List ℕ} (r : RunsAs ks budget m mem con g mem′ con′) where
+  -- where the rules make no step
+  unchanged : NoSteps buffered ks budget (viewOf m mem con) → (g .steps ≡ 0) × Unchanged m mem con (g .machine) mem′ con′
+  unchanged o =
+      let z = r .steps ∙ o .none in
+      let e = r .state ∙ o .same in
+      (z, record { machine = r .same z; memory = ap (λ (s : State (List Entry)). s .mem) e; console = ap (λ (s : State (List Entry)). s .console) e })
+
+  pub refused-unchanged : (runNumber (g .answer) ≡ 0 → ⊥) → (g .steps ≡ 0) × Unchanged m mem con (g .machine) mem′ con′
+  refused-unchanged h =
+      unchanged (refused-run buffered ks budget (viewOf m mem con) (refusing (run buffered ks budget (viewOf m mem con) .answer) (λ z. h (r .number ∙ z))))
+
+  -- "starts stopped, or has budget 0"
+  pub stopped-unchanged : isRunning (m .cpu .stop) ≡ false → (g .steps ≡ 0) × Unchanged m mem con (g .machine) mem′ con′
+  stopped-unchanged e = unchanged (stopped-run buffered ks budget (viewOf m mem con) e)
+
+  pub unbudgeted-unchanged : budget ≡ 0 → (g .steps ≡ 0) × Unchanged m mem con (g .machine) mem′ con′
+  unbudgeted-unchanged e = unchanged (unbudgeted-run buffered ks budget (viewOf m mem con) e)
+
+-- ---- `v9::single_step`
 
 module _ {m : Machine} {mem con : List ℕ} {n : ℕ} {x : Machine} {mem′ con′ : List ℕ} where
   -- of a run of some budget, what is told to the caller of a single step
