@@ -1,6 +1,6 @@
 -- Document 01, "The table reader" and "How much a contract says": what the comparison of demand 3 refuses. Two lists of runs that differ in one part of
 -- one run do not agree, where the first makes no store of demand 3's kind: in the answer; in the reported steps; in the state after a step; in the state at
--- the end. A state differs by a byte of memory, by a byte of the console, past the count too, by the keys taken, by the stop reason.
+-- the end. A state differs by a byte of memory, by a byte of the console, past the count too, by any number of the record, by the keys taken, by the console count.
 use Prim.Native.Nat.{ℕ, _<_}
 use mathlib.Core.Path.{_≡_, refl, ap, _∙_}
 use mathlib.Core.Logic.{_≢_}
@@ -12,6 +12,7 @@ use Rattle.paging.specs.Event.{Event, Words}
 use Rattle.paging.specs.Held.{heldAfter, storesHeld}
 use Rattle.paging.proofs.BoolLaws.{neither}
 use Rattle.rules.specs.declared.Cpu.{Cpu}
+use Rattle.rules.specs.Numbers.{numbersOf}
 use Rattle.rules.specs.Step.{State, Stepped}
 use Rattle.agreement.specs.Agreement.{Transcript, shown, AgreeSteps, Agree}
 use Rattle.agreement.proofs.Comparison.{heldThrough, storesThrough}
@@ -113,6 +114,10 @@ module _ {B : Type 0} (before later : List (Transcript B)) where
     pub record-differs : {A : Type 0} (told : Cpu → A) (c : Cpu) → told (s .cpu) ≢ told c → Disagree (put s) (put (withCpu c s))
     record-differs told c h = states-differ (withCpu c s) (λ e. h (ap (λ x. told (x .cpu)) e))
 
+    -- in a register: any of the record's numbers, its flags, stop reason and step count among them
+    pub register-differs : (i : ℕ) (c : Cpu) → getD (numbersOf (s .cpu)) i 0 ≢ getD (numbersOf c) i 0 → Disagree (put s) (put (withCpu c s))
+    register-differs i = record-differs (λ c. getD (numbersOf c) i 0)
+
     -- in keys taken
     pub taken-differ : (c : Cpu) → s .cpu .clock .taken ≢ c .clock .taken → Disagree (put s) (put (withCpu c s))
     taken-differ = record-differs (λ c. c .clock .taken)
@@ -120,10 +125,6 @@ module _ {B : Type 0} (before later : List (Transcript B)) where
     -- in the console count
     pub written-differs : (c : Cpu) → s .cpu .written ≢ c .written → Disagree (put s) (put (withCpu c s))
     written-differs = record-differs (λ c. c .written)
-
-    -- in the stop reason
-    pub stops-differ : (c : Cpu) → s .cpu .stop ≢ c .stop → Disagree (put s) (put (withCpu c s))
-    stops-differ = record-differs (λ c. c .stop)
 
   -- in a state in the middle: the step after xs
   pub middle-differs : (xs : List (Stepped B)) (es : List Event) (ys : List (Stepped B)) (t : Transcript B) (s u : State B) → WithoutStore (withStep xs es ys t s)

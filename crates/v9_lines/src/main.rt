@@ -1,8 +1,10 @@
 // Document 01, "Worked lines": the run program's line of many executables. Each comes on standard input with its length in front, four bytes, the
-// lowest first, and is run in a machine of its own. The end of input or a file that is cut off ends it.
+// lowest first, and is run in a machine of its own. The end of input or a file that is cut off ends them; then lines are compared with constant byte strings.
 ghost use Prim.Native.Nat.{_≤_, min};
 ghost use mathlib.Core.Path.{_≡_};
 ghost use lib.ListN.{length};
+
+mod constants;
 
 // What was read of a file: whether all of it was there, and how many of its bytes are kept.
 struct Given {
@@ -68,7 +70,7 @@ fn read_file(file: &mut [u8]) -> Given
 }
 
 // Reads a file and writes its line. The result: whether to go on.
-fn turn() -> bool {
+fn print_next() -> bool {
     // The longest that can be accepted, 16 + 32,768 bytes, and one more, by which a longer one is refused.
     let mut file = [0u8; 32785];
     let given = read_file(&mut file);
@@ -86,9 +88,15 @@ fn turn() -> bool {
     io::write_all(1, b"\n")
 }
 
-fn main() {
-    let mut turns = 0u64;
-    while turns < 1_000_000_000 && turn() {
-        turns += 1;
+// The lines of all files.
+fn print_all() {
+    let mut lines = 0u64;
+    while lines < 1_000_000_000 && print_next() {
+        lines += 1;
     }
+}
+
+fn main() {
+    print_all();
+    constants::compare_all();
 }

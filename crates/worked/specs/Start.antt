@@ -7,7 +7,7 @@ use Rattle.paging.specs.declared.Entry.{Entry}
 use Rattle.rules.specs.declared.Cpu.{Cpu}
 use Rattle.rules.specs.declared.Key.{Key}
 use Rattle.rules.specs.declared.Stop.{Stop}
-use Rattle.rules.specs.Record.{withB, withC, withSp, withPc, withCount, withRegs, withClock, withSpace, withSystem, withStop, withWritten, withTimer, withTimeout, withTaken, withUsp, withKsp, withIvec, withUser, withIena, withWaiting}
+use Rattle.rules.specs.Record.{withB, withC, withSp, withPc, withCount, withRegs, withClock, withPdir, withPaging, withSpace, withSystem, withStop, withWritten, withTimer, withTimeout, withTaken, withUsp, withKsp, withIvec, withUser, withIena, withWaiting}
 use Rattle.rules.specs.Load.{freshCpu}
 
 -- ---- the record: fresh in 4,096 bytes with entry 0, and then with one part put in place
@@ -59,7 +59,7 @@ atRest c = withSystem (withWaiting true (c .system)) c
 
 -- the one place in this crate that names every field of a part of the record
 abbrev putSpace : (paging : Bool) (pdir : ℕ) → Cpu → Cpu
-putSpace on x c = withSpace (record { pdir = x; paging = on }) c
+putSpace on x c = withSpace (withPdir x (withPaging on (c .space))) c
 
 abbrev pub putPdir : ℕ → Cpu → Cpu
 putPdir x c = putSpace false x c

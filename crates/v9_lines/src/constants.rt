@@ -86,7 +86,8 @@ fn stops() {
     );
 }
 
-fn main() {
+// All comparisons.
+pub fn compare_all() {
     refusals();
     stops();
 }

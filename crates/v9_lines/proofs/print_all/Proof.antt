@@ -1,23 +1,23 @@
--- `v9_lines::main` is safe and ends. Assumes nothing.
+-- `v9_lines::print_all` is safe and ends. Assumes nothing.
 use Prim.Native.Nat.{_-_}
 use borrow.Author.Needs.{needs}
-use Rattle.v9_lines.proofs.main.Statement.{statement}
-use Rattle.v9_lines.proofs.main.Tie as tie
+use Rattle.v9_lines.proofs.print_all.Statement.{statement}
+use Rattle.v9_lines.proofs.print_all.Tie as tie
 
 abbrev Inv-loop : tie.InvT-loop
-Inv-loop turns₀ turns = Unit {0}
+Inv-loop lines₀ lines = Unit {0}
 
 abbrev μ-loop : tie.MeasureT-loop
-μ-loop turns₀ turns = 1000000000 - turns
+μ-loop lines₀ lines = 1000000000 - lines
 
 loop-holds : tie.Need-loop-holds Inv-loop μ-loop
 loop-holds c = search needs
 
-turn-requires : tie.Need-turn-requires Inv-loop μ-loop
-turn-requires c κs = search needs
+print_next-requires : tie.Need-print_next-requires Inv-loop μ-loop
+print_next-requires c κs = search needs
 
-add-turns : tie.Need-add-turns Inv-loop μ-loop
-add-turns c = search needs
+add-lines : tie.Need-add-lines Inv-loop μ-loop
+add-lines c = search needs
 
 loop-less : tie.Need-loop-less Inv-loop μ-loop
 loop-less c = search needs
@@ -31,15 +31,15 @@ returns c = search needs
 returns-2 : tie.Need-returns-2 Inv-loop μ-loop
 returns-2 c = search needs
 
-pub main-spec : {M : Type 1} → statement M
-main-spec =
+pub print_all-spec : {M : Type 1} → statement M
+print_all-spec =
     tie.close
     (tie.spec
     Inv-loop
     μ-loop
     loop-holds
-    turn-requires
-    add-turns
+    print_next-requires
+    add-lines
     loop-less
     loop-again
     returns

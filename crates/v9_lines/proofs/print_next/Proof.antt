@@ -1,9 +1,9 @@
--- `v9_lines::turn` is safe and ends. Assumes nothing.
+-- `v9_lines::print_next` is safe and ends. Assumes nothing.
 use mathlib.Core.Path.{sym}
 use lib.Seq.{length-take-le}
 use borrow.Author.Needs.{needs}
-use Rattle.v9_lines.proofs.turn.Statement.{statement}
-use Rattle.v9_lines.proofs.turn.Tie as tie
+use Rattle.v9_lines.proofs.print_next.Statement.{statement}
+use Rattle.v9_lines.proofs.print_next.Tie as tie
 
 slice-aggregate-read-file : tie.Need-slice-aggregate-read-file
 slice-aggregate-read-file c = search needs
@@ -56,8 +56,8 @@ write-all-requires-2 c κs = search needs
 returns-3 : tie.Need-returns-3
 returns-3 c = search needs
 
-pub turn-spec : {M : Type 1} → statement M
-turn-spec =
+pub print_next-spec : {M : Type 1} → statement M
+print_next-spec =
     tie.close
     (tie.spec
     slice-aggregate-read-file
