@@ -1,7 +1,8 @@
 //! What runs have reached, counted: a comparison that covers nothing of a kind
 //! shows nothing about it.
 
-use crate::opcodes::decode::{can_fault_in_kernel, decode};
+use crate::opcodes::decode::decode;
+use crate::opcodes::kinds::can_fault_in_kernel;
 use crate::opcodes::sets::{is_legal, is_privileged, name_of};
 use crate::types::{Access, Registers, Stop, Trap};
 use std::fmt::Arguments;

@@ -2,7 +2,9 @@
 //! field that a slip could be made in.
 
 use crate::mistake::Mistake;
-use crate::opcodes::decode::{can_fault_in_kernel, decode, Arith, Op, Source, System};
+use crate::opcodes::decode::{decode, Op};
+use crate::opcodes::kinds::{can_fault_in_kernel, drops_bits, reads};
+use crate::opcodes::kinds::{sets_stack, sets_target, takes_imm, writes};
 use crate::opcodes::sets::{is_privileged, ILLEGAL, LEGAL, PRIVILEGED};
 
 /// Mistakes of one kind.
@@ -45,35 +47,6 @@ fn opcodes() -> Vec<Family> {
     ]
 }
 
-/// Whether the operation takes a number from its upper 24 bits. LHI and LBHI
-/// take the field; TIME asks only whether it is 0; a shift count's upper bits
-/// mean nothing.
-pub fn takes_imm(op: Op) -> bool {
-    match op {
-        Op::Load(..) | Op::Store(..) | Op::LoadImm(_) | Op::Branch(_) => true,
-        Op::Ent | Op::Lev | Op::Jmp | Op::Jmpi | Op::Jsr | Op::Lea | Op::Leag | Op::Pshi => true,
-        Op::Arith(Arith::Shl | Arith::Shr | Arith::Sru, source) => source == Source::Stack,
-        Op::Arith(_, source) => source != Source::Register,
-        _ => false,
-    }
-}
-
-fn sets_target(op: Op) -> bool {
-    match op {
-        Op::Branch(_) | Op::Jmp | Op::Jmpi | Op::Jsr | Op::Jsra | Op::Lev => true,
-        Op::System(system) => matches!(system, System::Rti | System::Ivec),
-        _ => false,
-    }
-}
-
-fn sets_stack(op: Op) -> bool {
-    match op {
-        Op::Ent | Op::Lev => true,
-        Op::System(system) => matches!(system, System::Ssp | System::Susp),
-        _ => false,
-    }
-}
-
 fn operands() -> Vec<Family> {
     use Mistake::{ImmediateIsShort, ImmediateIsUnsigned, StackKeepsLowBits, TargetKeepsLowBits};
     vec![
@@ -82,34 +55,6 @@ fn operands() -> Vec<Family> {
         by_opcode("opcode [0] keeps a target's low bits", sets_target, TargetKeepsLowBits),
         by_opcode("opcode [0] keeps a stack's low bits", sets_stack, StackKeepsLowBits),
     ]
-}
-
-/// RTI is out: it can't be made in user mode, and its address has no low bits.
-pub fn reads(op: Op) -> bool {
-    match op {
-        Op::Load(..) | Op::Pop(_) | Op::Lev => true,
-        Op::Arith(_, source) => source == Source::Stack,
-        Op::Block(block) => format!("{block:?}") != "Mset",
-        _ => false,
-    }
-}
-
-pub fn writes(op: Op) -> bool {
-    match op {
-        Op::Store(..) | Op::Push(_) | Op::Pshi | Op::Jsr | Op::Jsra => true,
-        Op::Block(block) => matches!(format!("{block:?}").as_str(), "Mcpy" | "Mset"),
-        _ => false,
-    }
-}
-
-/// Whether low bits of an address can drop: bytes have none, nor has sp.
-fn drops_bits(op: Op) -> bool {
-    use crate::opcodes::decode::Width::{Byte, SignedByte};
-    match op {
-        Op::Load(_, _, width) | Op::Store(_, width) => !matches!(width, Byte | SignedByte),
-        Op::Arith(_, source) => source == Source::Stack,
-        _ => false,
-    }
 }
 
 fn accesses() -> Vec<Family> {

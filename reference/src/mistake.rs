@@ -1,6 +1,7 @@
-//! Known mistakes that can be planted in the machine: document 01's five slips
-//! and other readings of open points. The rules never make one; the `mutants`
-//! command and the tests plant them to show that the cases tell them apart.
+//! Mistakes that can be planted in the machine: document 01's five slips, other
+//! readings of open points, slips in each clause. The rules never make one; the
+//! `mutants` command and the tests plant them to show that the cases tell them
+//! apart.
 
 macro_rules! mistakes {
     ($($name:ident: $text:literal,)*; $($family:ident($($of:ty),*),)*) => {

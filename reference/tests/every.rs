@@ -3,9 +3,9 @@
 mod common;
 use common::{after, runs, After};
 use reference::directed::every::{DATA, FAR};
-use reference::families::{reads, takes_imm, writes};
-use reference::opcodes::decode::{can_fault_in_kernel, decode};
+use reference::opcodes::decode::decode;
 use reference::opcodes::decode::{Arith, Base, Op, Reg, Source, Width};
+use reference::opcodes::kinds::{can_fault_in_kernel, reads, takes_imm, writes};
 use reference::opcodes::sets::{is_privileged, name_of, ILLEGAL, LEGAL, PRIVILEGED};
 use reference::types::{Registers, Stop};
 

@@ -20,7 +20,7 @@ fn the_size_of_memory() {
 #[test]
 fn frames_at_the_end() {
     after("a frame just below M").delivered(M, 5, 0x104);
-    for name in ["a frame just at M", "a frame whose second slot is the last"] {
+    for name in ["a frame just at M", "a frame beyond M"] {
         let refused = after(name);
         assert_eq!((refused.regs().stop, refused.regs().vadr), (Stop::NoFrame, 0), "{name}");
         assert!(refused.memory_is_unchanged());
@@ -82,6 +82,6 @@ fn frames_bit_by_bit() {
     let frames: Vec<u32> = after.entries()[1..].iter().map(|entry| entry.1).collect();
     assert_eq!(frames, (0..9).map(|bit| 1 << bit).collect::<Vec<u32>>());
     assert_eq!(after.regs().pc, 0x100 + 4 * 2 * 20);
-    // The last was page 30; b keeps the page of a read that faults.
-    assert_eq!((after.regs().vadr, after.regs().b), (30 * 0x1000 + 0x400, 30 * 0x1000));
+    // b keeps the page of a read that faults.
+    assert_eq!((after.regs().vadr, after.regs().b), (20 * 0x1000 + 0x400, 20 * 0x1000));
 }

@@ -3,8 +3,8 @@
 
 use super::{bare, kernel, open, paged, user, Named, HANDLER};
 use crate::case::Runs;
-use crate::families::{reads, takes_imm, writes};
-use crate::opcodes::decode::{can_fault_in_kernel, decode, Cond, Op, Source};
+use crate::opcodes::decode::{decode, Cond, Op, Source};
+use crate::opcodes::kinds::{can_fault_in_kernel, reads, takes_imm, writes};
 use crate::opcodes::sets::{is_privileged, name_of, ILLEGAL, LEGAL, PRIVILEGED};
 use crate::types::Registers;
 use crate::words::instruction;

@@ -36,7 +36,7 @@ fn edges() -> Vec<(&'static str, Runs)> {
         ("a read at 2 MiB", bare(2 * MIB, ab(M, 0), &[op("LX", 0)]).run(1)),
         ("a frame just below M", bare(2 * MIB, at(M), &trap).run(1)),
         ("a frame just at M", bare(2 * MIB, at(M + 8), &trap).run(1)),
-        ("a frame whose second slot is the last", bare(2 * MIB, at(M + 16), &trap).run(1)),
+        ("a frame beyond M", bare(2 * MIB, at(M + 16), &trap).run(1)),
         ("PDIR just below M", bare(2 * MIB, ab(M - 1, 0), &[op("PDIR", 0)]).run(1)),
         ("PDIR at M", bare(2 * MIB, ab(M, 0), &[op("PDIR", 0)]).run(1)),
     ]
@@ -78,34 +78,42 @@ fn tables() -> Vec<(&'static str, Runs)> {
     ]
 }
 
-/// Page 0 and the pages of one bit each. The lower ten lead to frames of one
-/// bit each, of which nine are in memory; the upper ten, by the same table, to
-/// frame 0. A handler goes on with the next.
 fn bits() -> Vec<(&'static str, Runs)> {
+    vec![
+        ("pages of one bit", pages().run(3 * 20 + 1)),
+        ("frames of one bit", frames().run(2 * 20 + 11)),
+    ]
+}
+
+/// The pages of one bit each are read. The lower ten lead to frames of one bit
+/// each, of which nine are in memory; the upper ten, by the same table, to
+/// frame 0. A handler goes on with the next.
+fn pages() -> Runs {
     let (directory, table) = (M - PAGE, M - 2 * PAGE);
-    let pages: Vec<u32> = (0..20).map(|bit| PAGE << bit).collect();
-    let read = |page: &u32| {
-        [op("LBI", (*page >> 24) as i32), op("LBHI", (*page & 0xff_ffff) as i32), op("LBX", 0x400)]
+    let read = |page: u32| {
+        let (high, low) = (page >> 24, page & 0xff_ffff);
+        [op("LBI", high as i32), op("LBHI", low as i32), op("LBX", 0x400)]
     };
-    let program: Vec<u32> = pages.iter().flat_map(read).collect();
+    let program: Vec<u32> = (0..20).flat_map(|bit| read(PAGE << bit)).collect();
     let mut runs = high(open(kernel()), &program).words(HANDLER, &[op("RTI", 0)]);
     for bit in 0..10 {
         runs = runs.words(directory + (4 << bit), &[table + 7]);
         runs = runs.words(table + (4 << bit), &[(PAGE << bit) + 7]);
     }
-    // Table indices 3 to 22 with frames of bits 0 to 19, read one after the other.
-    let read = |index: u32| [op("LBI", (index * PAGE) as i32), op("LBX", 0x400)];
-    let indices = (0..20u32).map(|bit| {
-        [3, 5, 6, 7, 9, 10, 11, 12, 13, 14][bit as usize % 10] + if bit < 10 { 0 } else { 16 }
-    });
-    let indices: Vec<u32> = indices.collect();
-    let program: Vec<u32> = indices.iter().flat_map(|index| read(*index)).collect();
-    let mut frames = high(open(kernel()), &program).words(HANDLER, &[op("RTI", 0)]);
-    for (bit, index) in indices.iter().enumerate() {
-        frames = frames.words(table + 4 * index, &[(PAGE << bit) + 7]);
+    runs
+}
+
+/// Pages 1 to 20 lead to the frames of one bit each, and are read.
+fn frames() -> Runs {
+    let table = M - 2 * PAGE;
+    let read = |page: i32| [op("LBI", page * PAGE as i32), op("LBX", 0x400)];
+    let program: Vec<u32> = (1..=20).flat_map(read).collect();
+    let mut runs = high(open(kernel()), &program).words(HANDLER, &[op("RTI", 0)]);
+    for bit in 0..20 {
+        runs = runs.words(table + 4 * (bit + 1), &[(PAGE << bit) + 7]);
     }
     for bit in 0..9 {
-        frames = frames.words((PAGE << bit) + 0x400, &[0x1000 + bit]);
+        runs = runs.words((PAGE << bit) + 0x400, &[0x1000 + bit]);
     }
-    vec![("pages of one bit", runs.run(3 * 20 + 1)), ("frames of one bit", frames.run(2 * 20 + 11))]
+    runs
 }

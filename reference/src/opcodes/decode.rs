@@ -243,16 +243,3 @@ fn decode_last(code: u8) -> Option<Op> {
         _ => return None,
     })
 }
-
-/// Whether an operation can fault in execution in kernel mode: it reaches
-/// memory, divides, sets pdir, or is TRAP. (A privileged one can in user mode.)
-pub fn can_fault_in_kernel(op: Op) -> bool {
-    use self::Arith::{Div, Dvu, Mdu, Mod};
-    match op {
-        Lev | Jsr | Jsra | Trap | Pshi => true,
-        Push(_) | Pop(_) | Load(..) | Store(..) | Block(_) => true,
-        Arith(arith, source) => source == Stack || matches!(arith, Div | Dvu | Mod | Mdu),
-        System(system) => matches!(system, System::Rti | System::Pdir),
-        _ => false,
-    }
-}

@@ -2,5 +2,6 @@
 //! derived from it, and the decoder the machine uses.
 
 pub mod decode;
+pub mod kinds;
 pub mod sets;
 pub mod table;

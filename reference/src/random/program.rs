@@ -4,7 +4,8 @@
 use super::rng::Rng;
 use super::space::{bits, Space};
 use super::values::number;
-use crate::opcodes::decode::{can_fault_in_kernel, decode, Base, Op, Reg, Source, System};
+use crate::opcodes::decode::{decode, Base, Op, Reg, Source, System};
+use crate::opcodes::kinds::can_fault_in_kernel;
 use crate::opcodes::sets::{code_of, name_of, ILLEGAL, LEGAL};
 use crate::types::PAGE;
 use crate::words::instruction;
