@@ -12,12 +12,7 @@ impl Machine {
     /// Translates in the current mode. `size` is 1, 2 or 4; the physical
     /// address comes back with its low bits dropped to that size.
     pub fn reach(&mut self, address: u32, access: Access, size: u32) -> Result<u32, Trap> {
-        let user = self.regs.user && !self.makes(Mistake::AsKernel(self.opcode));
-        match self.translate(
-            address,
-            access,
-            if access == Access::Fetch { self.regs.user } else { user },
-        ) {
+        match self.translate(address, access, self.is_by_user(access)) {
             Ok(physical) => Ok(physical & !(size - 1)),
             Err(trap) => {
                 let dropped = address & !(size - 1);
@@ -27,6 +22,11 @@ impl Machine {
                 Err(trap)
             }
         }
+    }
+
+    fn is_by_user(&self, access: Access) -> bool {
+        let as_kernel = access != Access::Fetch && self.makes(Mistake::AsKernel(self.opcode));
+        self.regs.user && !as_kernel
     }
 
     pub fn read(&mut self, address: u32, size: u32) -> Result<u32, Trap> {

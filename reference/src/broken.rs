@@ -4,6 +4,7 @@
 
 use crate::case::decode::Broken::{self, Bounds, Cut, Malformed};
 use crate::case::encode::encode;
+use crate::case::numbers::NAMES;
 use crate::case::{Case, Load, Runs};
 use crate::types::Registers;
 use crate::worked::op;
@@ -23,7 +24,7 @@ const RUNS: usize = 36;
 const NUMBERS: usize = 56;
 const FIRST_NUMBER: usize = 60;
 /// Where `good` has its parts.
-const SLOT: usize = FIRST_NUMBER + 8 * 19;
+const SLOT: usize = FIRST_NUMBER + 8 * NAMES.len();
 const FIRST_CHUNK: usize = SLOT + 16;
 const SECOND_CHUNK: usize = FIRST_CHUNK + 8 + 2;
 const KEYS: usize = SECOND_CHUNK + 8 + 3 + 1;
@@ -132,13 +133,14 @@ fn lengths() -> Vec<Vec<u8>> {
 /// Counts that contradict each other or the format.
 #[rustfmt::skip]
 fn fields() -> Vec<Vec<u8>> {
+    let count = NAMES.len() as u32;
     let runs = [
         (ENTRIES, 0), (ENTRIES, 8), (ENTRIES, u32::MAX),
         (SLOTS, 65), (SLOTS, u32::MAX),
         (CHUNKS, 3), (CHUNKS, u32::MAX),
         (GIVEN, 2), (GIVEN, u32::MAX), (CONSOLE, 0),
         (RUNS, 0), (RUNS, 2), (RUNS, 64),
-        (NUMBERS, 18), (NUMBERS, 20), (NUMBERS, 0), (NUMBERS, u32::MAX),
+        (NUMBERS, count - 1), (NUMBERS, count + 1), (NUMBERS, 0), (NUMBERS, u32::MAX),
         (KEYS, 0), (KEYS, 2), (KEYS, 64),
     ];
     let loads = [(12, 256), (12, u32::MAX), (16, 0), (16, 8), (16, 10), (16, u32::MAX)];
@@ -147,7 +149,8 @@ fn fields() -> Vec<Vec<u8>> {
     runs.into_iter().chain(loads).collect()
 }
 
-/// Too large for the record's fields, or for a slot's rights.
+/// Too large for the record's fields (13 words, 4 flags, the stop reason), or
+/// for a slot's rights.
 fn numbers() -> Vec<Vec<u8>> {
     let place = |nth: usize| FIRST_NUMBER + 8 * nth;
     let mut list: Vec<Vec<u8>> = (0..18).map(|nth| with(place(nth) + 4, 1)).collect();
