@@ -2,6 +2,9 @@
 
 mod common;
 use common::after;
+use reference::case::Case;
+use reference::directed;
+use reference::load::load;
 use reference::types::Stop;
 
 const M: u32 = 0x20_0000;
@@ -15,6 +18,17 @@ fn the_size_of_memory() {
     assert_eq!([0xf_fff8, 0xf_fffc, 0x10_0000, 0x10_0004].map(|at| stored.word(at)), [0, 7, 7, 0]);
     let beyond = after("a read at 2 MiB");
     assert_eq!((beyond.regs().stop, beyond.regs().vadr), (Stop::Masked, M));
+}
+
+#[test]
+fn a_load() {
+    let file = directed::all().into_iter().find(|case| case.0 == "load into 2 MiB").unwrap().1;
+    let Case::Load(given) = file else { panic!("no load") };
+    let mut memory = vec![given.fill; given.memory_length];
+    let (answer, record) = load(&mut memory, &given.file);
+    assert_eq!((answer, record.regs.sp, record.regs.pc), (0, M, 4));
+    assert_eq!(memory[..9], [1, 2, 3, 4, 5, 6, 7, 8, 9]);
+    assert!(memory[9..].iter().all(|byte| *byte == 0) && memory.len() == M as usize);
 }
 
 #[test]

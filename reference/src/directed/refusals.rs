@@ -1,7 +1,7 @@
 //! Every refusal of run and load alone, some together, and their edges.
 
 use super::Named;
-use crate::case::{Case, Load, Runs};
+use crate::case::{Case, Load, Runs, MAX_MEMORY};
 use crate::load::{executable, MAGIC};
 use crate::types::{Entry, Registers, Stop, MAX_BUDGET};
 use crate::worked::op;
@@ -213,6 +213,7 @@ fn load_cases() -> Vec<(&'static str, Load)> {
         ("load", file(8192, 4, 8, 9)),
         ("load, data start odd", file(4096, 0, 5, 9)),
         ("load, body as long as M", file(4096, 4092, 4096, 4096)),
+        ("load into 2 MiB", file(MAX_MEMORY, 4, 8, 9)),
         ("load, bss above M", Load { file: executable(9999, 0, 8, &[7; 8]), ..cut(0) }),
         ("load 1 by M = 0", file(0, 0, 8, 8)),
         ("load 1 by M = 4,095", file(4095, 2, 99, 8)),
