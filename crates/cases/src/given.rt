@@ -1,5 +1,7 @@
 // reference/FORMAT.md, "A case of runs": the record and the keys that a case gives.
 ghost use Prim.Native.Nat.{_≤_};
+use format::given::NUMBERS;
+use format::given::SLOTS;
 use format::given::least;
 use format::given::long;
 use format::given::place;
@@ -9,10 +11,10 @@ use rules::Key;
 use rules::Machine;
 
 // The record's numbers, from 60 on.
-fn numbers_at(s: &[u8]) -> [u64; 19] {
-    let mut numbers = [0u64; 19];
+fn numbers_at(s: &[u8]) -> [u64; NUMBERS] {
+    let mut numbers = [0u64; NUMBERS];
     let mut i = 0;
-    while i < 19 {
+    while i < NUMBERS {
         numbers[i] = long(s, 60 + 8 * i);
         i += 1;
     }
@@ -30,7 +32,7 @@ fn entry_at(s: &[u8], at: usize) -> Entry
     }
 }
 
-// The slots given, from 212 on, and empty ones after them.
+// The slots given, and empty ones after them.
 fn entries_at(s: &[u8]) -> [Entry; 64] {
     let slots = least(place(s, 24), 64);
     let mut entries = [Entry {
@@ -41,7 +43,7 @@ fn entries_at(s: &[u8]) -> [Entry; 64] {
     }; 64];
     let mut i = 0;
     while i < slots {
-        entries[i] = entry_at(s, 212 + 16 * i);
+        entries[i] = entry_at(s, SLOTS + 16 * i);
         i += 1;
     }
     entries

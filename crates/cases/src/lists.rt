@@ -3,6 +3,7 @@ ghost use Prim.Native.Nat.{_<_};
 use crate::given::machine_of;
 use crate::made::make;
 use crate::printed::show_line;
+use format::given::SLOTS;
 use format::given::chunks;
 use format::given::copy;
 use format::given::fill;
@@ -61,7 +62,7 @@ fn pass(s: &[u8], no: u64, entry: u32, mem: &mut [u8], con: &mut [u8])
     fill(mem, 0);
     fill(con, 0);
     let slots = place(s, 24);
-    let at = chunks(s, 212 + 16 * slots, place(s, 28), mem);
+    let at = chunks(s, SLOTS + 16 * slots, place(s, 28), mem);
     if s.len() < at {
         return;
     }

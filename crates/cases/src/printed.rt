@@ -1,5 +1,6 @@
 // reference/FORMAT.md, "Expected output": the line of a run or a load.
 use format::digest::digest;
+use format::given::NUMBERS;
 use format::given::least;
 use format::printed::end;
 use format::printed::number;
@@ -32,7 +33,7 @@ fn buffer(out: &mut [u8], at: usize, entries: [Entry; 64], held: usize) -> usize
 // The record: keys taken, console bytes written, its numbers with their count, the buffer.
 fn record(out: &mut [u8], at: usize, m: Machine) -> usize {
     let c = m.cpu;
-    let head = [c.clock.taken as u64, c.written as u64, 19];
+    let head = [c.clock.taken as u64, c.written as u64, NUMBERS as u64];
     let p = numbers(out, at, &head);
     let values = rules::numbers::numbers_of(c);
     let p = numbers(out, p, &values);

@@ -25,19 +25,29 @@ fn show_read(buf: &[u8], no: u64, memory: &mut [u8], console: &mut [u8]) {
     show_case(&buf[..n], no, memory, console);
 }
 
+// Reads a case and shows its lines, or the last line. The result: whether to go on.
+fn turn(
+    no: u64,
+    buf: &mut [u8; 131072],
+    memory: &mut [u8; 2097152],
+    console: &mut [u8; 4096],
+) -> bool {
+    let judged = read_case(buf);
+    let Judged::Good = judged else {
+        show_end(judged, no);
+        return false;
+    };
+    show_read(buf, no, memory, console);
+    true
+}
+
 // All cases, to the first that is broken or the end. The arrays are made once, as a case uses no more of them than it says.
 pub fn answer() {
     let mut buf = [0u8; 131072];
     let mut memory = [0u8; 2097152];
     let mut console = [0u8; 4096];
     let mut no = 0;
-    while no < 1_000_000_000 {
-        let judged = read_case(&mut buf);
-        let Judged::Good = judged else {
-            show_end(judged, no);
-            return;
-        };
-        show_read(&buf, no, &mut memory, &mut console);
+    while no < 1_000_000_000 && turn(no, &mut buf, &mut memory, &mut console) {
         no += 1;
     }
 }

@@ -2,6 +2,11 @@
 ghost use Prim.Native.Nat.{_+_, _≤_, _<_, _^_};
 ghost use lib.ListN.{length};
 
+// How many numbers the record has, and the place after them, where the slots begin.
+pub const NUMBERS: usize = 19;
+
+pub const SLOTS: usize = 60 + 8 * NUMBERS;
+
 // A number of four bytes.
 pub fn word(s: &[u8], at: usize) -> u32 {
     if s.len() < 4 {

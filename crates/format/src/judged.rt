@@ -1,6 +1,8 @@
 // reference/FORMAT.md, "The last line": a case is judged whole before any of it is run, by its bytes alone.
 ghost use Prim.Native.Nat.{_+_, _≤_, _<_, _^_};
 ghost use lib.ListN.{length};
+use crate::given::NUMBERS;
+use crate::given::SLOTS;
 use crate::given::long;
 use crate::given::place;
 use crate::given::word;
@@ -44,7 +46,7 @@ fn most(i: usize) -> u64 {
 // Whether the numbers of the record fit their fields.
 fn numbers_fit(s: &[u8]) -> bool {
     let mut i = 0;
-    while i < 19 {
+    while i < NUMBERS {
         if most(i) < long(s, 60 + 8 * i) {
             return false;
         }
@@ -59,7 +61,7 @@ fn rights_fit(s: &[u8], slots: usize) -> bool
 {
     let mut i = 0;
     while i < slots {
-        let at = 212 + 16 * i;
+        let at = SLOTS + 16 * i;
         if (1 < word(s, at + 8)) | (1 < word(s, at + 12)) {
             return false;
         }
@@ -115,13 +117,13 @@ fn judge_list(s: &[u8], from: usize, count: usize) -> Judged {
 // The parts after the header.
 fn judge_parts(s: &[u8]) -> Judged {
     let slots = place(s, 24);
-    if (s.len() < 212 + 16 * slots) | !numbers_fit(s) {
+    if (s.len() < SLOTS + 16 * slots) | !numbers_fit(s) {
         return Judged::Malformed;
     }
     if !rights_fit(s, slots) {
         return Judged::Malformed;
     }
-    let at = chunks_end(s, 212 + 16 * slots, place(s, 28), place(s, 12));
+    let at = chunks_end(s, SLOTS + 16 * slots, place(s, 28), place(s, 12));
     if at == 0 {
         return Judged::Malformed;
     }
@@ -134,7 +136,7 @@ fn judge_runs(s: &[u8]) -> Judged {
         return Judged::Bounds;
     }
     let entries = word(s, 8);
-    let header = (0 < entries) & (entries < 8) & (word(s, 56) == 19);
+    let header = (0 < entries) & (entries < 8) & (place(s, 56) == NUMBERS);
     if !header | (64 < word(s, 24)) | (word(s, 16) < word(s, 32)) {
         return Judged::Malformed;
     }
