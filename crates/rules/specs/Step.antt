@@ -19,7 +19,7 @@ use Rattle.rules.specs.Trap.{Effect, none as nothing, turn, deliver, pri
 use Rattle.rules.specs.System.{systemTree}
 use Rattle.rules.specs.Clock.{nextOf, ticked, dueOf}
 
--- the rest of a step after its instruction: c is the record before the fetch, size and room the lengths of memory and console
+-- the rest of a step after its instruction: c is the record before the fetch, its count raised, size and room the lengths of memory and console
 unfoldable pub settleTree : (size room : ℕ) → Cpu → Out → Tree Final
 unfolding faultTree trapTree systemTree
 settleTree size room c (fine r vs) = final (withRegs r c) vs nothing
@@ -32,6 +32,7 @@ settleTree size room c (system op) = systemTree size room op c
 abbrev pub awake : Cpu → Cpu
 awake c = withSystem (withWaiting false (c .system)) c
 
+-- c is the record after rules 1 to 3
 -- rules 4 and 5: "If something is due, waiting ends and the trap is delivered; the step ends. If waiting, the step ends. Else fetch"
 unfoldable pub dueTree : Option ℕ → (size room : ℕ) → Cpu → Tree Final
 unfolding settleTree instructionTree

@@ -1,4 +1,4 @@
--- Document 01, "Opcodes", the privileged instructions, and "Traps", RTI. c is the record before the fetch.
+-- Document 01, "Opcodes", the privileged instructions, and "Traps", RTI. Where a definition does not say otherwise, c is the record before the fetch.
 use Prim.Native.Nat.{ℕ, _+_, _/_, _%_}
 use mathlib.Core.Bool.{Bool, true, false, not}
 use mathlib.Core.List.{List, [], _∷_}
@@ -20,7 +20,7 @@ use Rattle.rules.specs.Arithmetic.{flag}
 use Rattle.rules.specs.Execute.{moved}
 use Rattle.rules.specs.Trap.{Final, final, ended, turn, print, nextPc, trapTree, faultTree}
 
--- "if the code contains the mark of value 16, ksp = sp, sp = usp, user = 1"
+-- "if the code contains the mark of value 16, ksp = sp, sp = usp, user = 1"; c has sp raised and pc set
 abbrev pub backTo : Bool → Cpu → Cpu
 backTo true c = withRegs (withSp (c .system .usp) (c .regs)) (withSystem (withKsp (c .regs .sp) (withUser true (c .system))) c)
 backTo false c = c
@@ -41,14 +41,14 @@ rtiTree c =
     ask (access Read 4 (sum (c .regs .sp) 8)) (orFault c (λ pc.
     ended (returned c code pc)))))
 
--- "BOUT: b's low byte appended, a = 1; console full, a = 0xFFFFFFFF"; room is the console's length
+-- "BOUT: b's low byte appended, a = 1; console full, a = 0xFFFFFFFF"; room is the console's length, c has pc moved on
 unfoldable pub boutTree : ℕ → Cpu → Tree Final
 boutTree room c =
     if ltb (c .written) room
     then final (putA 1 (withWritten (c .written + 1) c)) [] (print (c .regs .b % 256))
     else ended (putA 0xffffffff c)
 
--- "PDIR: a not below M is FMEM with vadr = a; low twelve bits drop"; `old` is the record before the fetch
+-- "PDIR: a not below M is FMEM with vadr = a; low twelve bits drop"; `old` is the record before the fetch, c has pc moved on
 unfoldable pub pdirTree : ℕ → Cpu → Cpu → Tree Final
 unfolding faultTree
 pdirTree size old c =
@@ -56,7 +56,7 @@ pdirTree size old c =
     then final c [] (turn (withPdir (cut 4096 (c .regs .a)) (c .space)))
     else faultTree old (record { code = FMEM; address = c .regs .a }) (nextPc old)
 
--- "SPAG: paging = (a ≠ 0)"
+-- "SPAG: paging = (a ≠ 0)"; c has pc moved on
 abbrev pub spagTree : Cpu → Tree Final
 spagTree c = final c [] (turn (withPaging (not (eqb (c .regs .a) 0)) (c .space)))
 

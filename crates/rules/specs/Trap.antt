@@ -1,4 +1,4 @@
--- Document 01, "Traps": delivery, and the stops.
+-- Document 01, "Traps": delivery, and the stops. c is the record before the fetch or delivery: its count is raised, and a denied access has set vadr.
 use Prim.Native.Nat.{ℕ, _+_}
 use mathlib.Core.Bool.{Bool, true, false}
 use mathlib.Core.List.{List, [], _∷_}
