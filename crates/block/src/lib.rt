@@ -10,7 +10,6 @@ ghost use Rattle.outcome.specs.Contract.{Executes};
 use decode::BlockOp;
 use memory::Size;
 use outcome::Done;
-use outcome::End;
 use paging::Access;
 use paging::Answer;
 use paging::Space;
@@ -34,28 +33,18 @@ fn finish(r: Regs, op: BlockOp) -> Regs
 fn again(r: Regs) -> Regs
     ensures { λ x. ⌜ x ≡ nextA (againOf r) ⌝ }
 {
-    Regs {
-        a: word::sum(r.a, 1),
-        b: r.b,
-        c: word::difference(r.c, 1),
-        sp: r.sp,
-        pc: word::difference(r.pc, 4),
-        count: r.count,
-    }
+    let a = word::sum(r.a, 1);
+    let c = word::difference(r.c, 1);
+    outcome::regs(r, a, r.b, c, r.sp, word::difference(r.pc, 4))
 }
 
 // The same, with b one more too.
 fn again_both(r: Regs) -> Regs
     ensures { λ x. ⌜ x ≡ nextA (nextB (againOf r)) ⌝ }
 {
-    Regs {
-        a: word::sum(r.a, 1),
-        b: word::sum(r.b, 1),
-        c: word::difference(r.c, 1),
-        sp: r.sp,
-        pc: word::difference(r.pc, 4),
-        count: r.count,
-    }
+    let mut n = again(r);
+    n.b = word::sum(r.b, 1);
+    n
 }
 
 fn compared(r: Regs, x: u32, y: u32) -> Regs
@@ -64,28 +53,15 @@ fn compared(r: Regs, x: u32, y: u32) -> Regs
     if x == y {
         return again_both(r);
     }
-    Regs {
-        a: word::difference(x, y),
-        b: word::sum(r.b, r.c),
-        c: 0,
-        sp: r.sp,
-        pc: r.pc,
-        count: r.count,
-    }
+    let a = word::difference(x, y);
+    outcome::regs(r, a, word::sum(r.b, r.c), 0, r.sp, r.pc)
 }
 
 fn searched(r: Regs, x: u32) -> Regs
     ensures { λ n. ⌜ n ≡ searchedOf x r ⌝ }
 {
     if x == r.b % 256 {
-        return Regs {
-            a: r.a,
-            b: r.b,
-            c: 0,
-            sp: r.sp,
-            pc: r.pc,
-            count: r.count,
-        };
+        return outcome::regs(r, r.a, r.b, 0, r.sp, r.pc);
     }
     again(r)
 }
@@ -101,36 +77,16 @@ fn copy_byte(
     requires { ⌜ Good (length (now mem)) (space .pdir) (now tlb) ⌝ }
     ensures { λ d. ⌜ Executes (byteTree Mcpy r) space user [] (now (mem .entry)) (now (tlb .entry)) d (now (mem .exit)) (now (tlb .exit)) ⌝ }
 {
-    let p = mmu::translate(
-        mem,
-        tlb,
-        hint,
-        space.paging,
-        space.pdir,
-        r.b,
-        Size::Byte,
-        Access::Read,
-        user,
-    );
+    let p = mmu::translate(mem, tlb, hint, space, r.b, Size::Byte, Access::Read, user);
     let Answer::At(from) = p else {
-        return outcome::ended(End::Refused(outcome::fault_of(p)));
+        return outcome::refused(r, p);
     };
     let x = memory::load1(mem, from) as u32;
-    let q = mmu::translate(
-        mem,
-        tlb,
-        hint,
-        space.paging,
-        space.pdir,
-        r.a,
-        Size::Byte,
-        Access::Write,
-        user,
-    );
+    let q = mmu::translate(mem, tlb, hint, space, r.a, Size::Byte, Access::Write, user);
     let Answer::At(to) = q else {
-        return outcome::ended(End::Refused(outcome::fault_of(q)));
+        return outcome::refused(r, q);
     };
-    memory::store1(mem, to, x);
+    memory::store(mem, to, Size::Byte, x);
     outcome::fine(again_both(r))
 }
 
@@ -145,34 +101,14 @@ fn compare_byte(
     requires { ⌜ Good (length (now mem)) (space .pdir) (now tlb) ⌝ }
     ensures { λ d. ⌜ Executes (byteTree Mcmp r) space user [] (now (mem .entry)) (now (tlb .entry)) d (now (mem .exit)) (now (tlb .exit)) ⌝ }
 {
-    let p = mmu::translate(
-        mem,
-        tlb,
-        hint,
-        space.paging,
-        space.pdir,
-        r.b,
-        Size::Byte,
-        Access::Read,
-        user,
-    );
+    let p = mmu::translate(mem, tlb, hint, space, r.b, Size::Byte, Access::Read, user);
     let Answer::At(first) = p else {
-        return outcome::ended(End::Refused(outcome::fault_of(p)));
+        return outcome::refused(r, p);
     };
     let x = memory::load1(mem, first) as u32;
-    let q = mmu::translate(
-        mem,
-        tlb,
-        hint,
-        space.paging,
-        space.pdir,
-        r.a,
-        Size::Byte,
-        Access::Read,
-        user,
-    );
+    let q = mmu::translate(mem, tlb, hint, space, r.a, Size::Byte, Access::Read, user);
     let Answer::At(second) = q else {
-        return outcome::ended(End::Refused(outcome::fault_of(q)));
+        return outcome::refused(r, q);
     };
     let y = memory::load1(mem, second) as u32;
     outcome::fine(compared(r, x, y))
@@ -189,19 +125,9 @@ fn search_byte(
     requires { ⌜ Good (length (now mem)) (space .pdir) (now tlb) ⌝ }
     ensures { λ d. ⌜ Executes (byteTree Mchr r) space user [] (now (mem .entry)) (now (tlb .entry)) d (now (mem .exit)) (now (tlb .exit)) ⌝ }
 {
-    let p = mmu::translate(
-        mem,
-        tlb,
-        hint,
-        space.paging,
-        space.pdir,
-        r.a,
-        Size::Byte,
-        Access::Read,
-        user,
-    );
+    let p = mmu::translate(mem, tlb, hint, space, r.a, Size::Byte, Access::Read, user);
     let Answer::At(at) = p else {
-        return outcome::ended(End::Refused(outcome::fault_of(p)));
+        return outcome::refused(r, p);
     };
     let x = memory::load1(mem, at) as u32;
     outcome::fine(searched(r, x))
@@ -218,21 +144,11 @@ fn set_byte(
     requires { ⌜ Good (length (now mem)) (space .pdir) (now tlb) ⌝ }
     ensures { λ d. ⌜ Executes (byteTree Mset r) space user [] (now (mem .entry)) (now (tlb .entry)) d (now (mem .exit)) (now (tlb .exit)) ⌝ }
 {
-    let p = mmu::translate(
-        mem,
-        tlb,
-        hint,
-        space.paging,
-        space.pdir,
-        r.a,
-        Size::Byte,
-        Access::Write,
-        user,
-    );
+    let p = mmu::translate(mem, tlb, hint, space, r.a, Size::Byte, Access::Write, user);
     let Answer::At(at) = p else {
-        return outcome::ended(End::Refused(outcome::fault_of(p)));
+        return outcome::refused(r, p);
     };
-    memory::store1(mem, at, r.b % 256);
+    memory::store(mem, at, Size::Byte, r.b % 256);
     outcome::fine(again(r))
 }
 

@@ -15,11 +15,6 @@ pub enum Due {
     Code(u32),
 }
 
-// The codes of the timer's and the keyboard's interrupt.
-const FTIMER: u32 = 1;
-
-const FKEYBD: u32 = 2;
-
 // Whether the next key comes in the step from c.
 fn key_comes(k: Next, c: Cpu) -> bool
     requires { ⌜ c .regs .count + 1 < 2 ^ 64 ⌝ }
@@ -89,10 +84,10 @@ pub fn due_trap(k: Next, c: Cpu) -> Due
     let key = c.system.iena & key_comes(k, c);
     let timer = c.system.iena & !key & timer_fires(c);
     if timer {
-        return Due::Code(FTIMER);
+        return Due::Code(paging::FTIMER);
     }
     if key {
-        return Due::Code(FKEYBD);
+        return Due::Code(paging::FKEYBD);
     }
     Due::Nothing
 }

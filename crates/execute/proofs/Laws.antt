@@ -50,11 +50,11 @@ module _ {s : Space} {user : Bool} {gs : List Grant} {m l : List ℕ} (g : Good 
 -- ---- the fetch
 
 module _ {s : Space} {user : Bool} {gs : List Grant} (r : Regs) {m l : List ℕ} {a : Answer} {m′ l′ : List ℕ}
-    (t : Translates (s .paging) (s .pdir) (requested Fetch 4 (r .pc) user) m l a m′ l′) {d : Done} where
+    (t : Translates s (requested Fetch 4 (r .pc) user) m l a m′ l′) {d : Done} where
   -- a fetch that is denied
-  pub executes-no-fetch : {x f : Fault} → a ≡ Denied x → f ≡ faultOf a → d ≡ bad (Unfetched f) → Executes (instructionTree r) s user gs m l d m′ l′
+  pub executes-no-fetch : {x f : Fault} {u : Regs} → a ≡ Denied x → f ≡ faultOf a → d ≡ bad u (Unfetched f) → Executes (instructionTree r) s user gs m l d m′ l′
   unfolding instructionTree
-  executes-no-fetch e q h = executes-not t (fetched r) e (executes-unfetched (t .good) (rw (← fault-told e q) h))
+  executes-no-fetch {u = u} e q h = executes-not t (fetched r) e (executes-unfetched (t .good) {r = u} (rw (← fault-told e q) h))
 
   -- a fetch that is granted: its word is decoded and executed
   pub executes-fetched : {p w : ℕ} {i : Instr} {m″ l″ : List ℕ} → a ≡ At p → w ≡ loadN 4 m′ p → i ≡ decodeOf w

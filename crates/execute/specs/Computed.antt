@@ -14,7 +14,7 @@ use Rattle.outcome.specs.Contract.{ok, bad}
 -- the value goes to a; "Zero divisor: FARITH"
 abbrev pub doneBy : Regs → Computed → Done
 doneBy r (Value v) = ok (withA v r)
-doneBy r ZeroDivisor = bad (Trap FARITH)
+doneBy r ZeroDivisor = bad r (Trap FARITH)
 
 -- an operation on a and y
 abbrev pub aluDone : AluOp → ℕ → Regs → Done

@@ -23,13 +23,6 @@ use paging::Answer;
 use paging::Space;
 use rules::Regs;
 
-// Illegal instruction, software trap, arithmetic trap.
-const FINST: u32 = 4;
-
-const FSYS: u32 = 5;
-
-const FARITH: u32 = 6;
-
 // ---- arithmetic
 
 // Arithmetic on a and y.
@@ -37,7 +30,7 @@ fn compute(r: Regs, op: AluOp, y: u32) -> Done
     ensures { λ d. ⌜ d ≡ aluDone op y r ⌝ }
 {
     let Computed::Value(v) = arithmetic::compute(op, r.a, y) else {
-        return outcome::ended(End::Trap(FARITH));
+        return outcome::ended(r, End::Trap(paging::FARITH));
     };
     outcome::fine(registers::put(r, Reg::A, v))
 }
@@ -57,19 +50,9 @@ fn compute_stack(
     ensures { λ d. ⌜ Executes (aluFrom op (Stack imm) r) space user [] (now (mem .entry)) (now (tlb .entry)) d (now (mem .exit)) (now (tlb .exit)) ⌝ }
 {
     let va = word::sum(r.sp, imm);
-    let p = mmu::translate(
-        mem,
-        tlb,
-        hint,
-        space.paging,
-        space.pdir,
-        va,
-        Size::Word,
-        Access::Read,
-        user,
-    );
+    let p = mmu::translate(mem, tlb, hint, space, va, Size::Word, Access::Read, user);
     let Answer::At(q) = p else {
-        return outcome::ended(End::Refused(outcome::fault_of(p)));
+        return outcome::refused(r, p);
     };
     let v = memory::load4(mem, q);
     compute(r, op, v)
@@ -91,9 +74,9 @@ fn execute(
     ensures { λ d. ⌜ Executes (executeTree i r) space user [] (now (mem .entry)) (now (tlb .entry)) d (now (mem .exit)) (now (tlb .exit)) ⌝ }
 {
     match i {
-        Instr::Illegal => outcome::ended(End::Trap(FINST)),
+        Instr::Illegal => outcome::ended(r, End::Trap(paging::FINST)),
         Instr::Nop => outcome::fine(r),
-        Instr::Trap => outcome::ended(End::Trap(FSYS)),
+        Instr::Trap => outcome::ended(r, End::Trap(paging::FSYS)),
         Instr::Cyc => outcome::fine(registers::put(r, Reg::A, (r.count % 0x1_0000_0000) as u32)),
         Instr::Jsra => transfer::push(
             r,
@@ -164,7 +147,7 @@ fn execute(
         ),
         Instr::Pshi(n) => transfer::push(r, n, r.pc, user, space, mem, tlb, hint),
         Instr::Pop(d) => transfer::pop(r, d, user, space, mem, tlb, hint),
-        Instr::Sys(op) => outcome::ended(End::System(op)),
+        Instr::Sys(op) => outcome::ended(r, End::System(op)),
     }
 }
 
@@ -181,36 +164,12 @@ pub fn instruction(
     requires { ⌜ Good (length (now mem)) (space .pdir) (now tlb) × (r .count + 1 < 2 ^ 64) ⌝ }
     ensures { λ d. ⌜ Executes (instructionTree (withCount (r .count + 1) r)) space user [] (now (mem .entry)) (now (tlb .entry)) d (now (mem .exit)) (now (tlb .exit)) ⌝ }
 {
-    let p = mmu::translate(
-        mem,
-        tlb,
-        hint,
-        space.paging,
-        space.pdir,
-        r.pc,
-        Size::Word,
-        Access::Fetch,
-        user,
-    );
+    let p = mmu::translate(mem, tlb, hint, space, r.pc, Size::Word, Access::Fetch, user);
     let Answer::At(q) = p else {
-        return outcome::ended(End::Unfetched(outcome::fault_of(p)));
+        return outcome::ended(r, End::Unfetched(outcome::fault_of(p)));
     };
     let i = decode::decode(memory::load4(mem, q));
-    let pc = word::sum(r.pc, 4);
-    execute(
-        Regs {
-            a: r.a,
-            b: r.b,
-            c: r.c,
-            sp: r.sp,
-            pc,
-            count: r.count + 1,
-        },
-        i,
-        user,
-        space,
-        mem,
-        tlb,
-        hint,
-    )
+    let mut n = outcome::regs(r, r.a, r.b, r.c, r.sp, word::sum(r.pc, 4));
+    n.count = r.count + 1;
+    execute(n, i, user, space, mem, tlb, hint)
 }

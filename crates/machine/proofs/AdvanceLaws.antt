@@ -12,15 +12,14 @@ use Rattle.mmu.specs.State.{state as result}
 use Rattle.rules.specs.declared.Cpu.{Cpu}
 use Rattle.rules.specs.declared.Key.{Key}
 use Rattle.rules.specs.declared.Next.{Next}
+use Rattle.rules.specs.Outcome.{Out}
 use Rattle.rules.specs.Clock.{nextOf}
 use Rattle.rules.specs.Step.{State, settleTree, finished, steppedBy, stepBy, step}
 use Rattle.outcome.specs.declared.Done.{Done}
 use Rattle.outcome.specs.declared.End.the-variants.{Ok}
-use Rattle.outcome.specs.Contract.{bad, stateOf, Finishes}
+use Rattle.outcome.specs.Contract.{outOf, stateOf, Finishes}
 use Rattle.clock.specs.Quiet.{quietSteps, Quiet, afterQuiet, Room}
 use Rattle.clock.proofs.QuietSteps.{quiet-few, quiet-steps, quiet-room}
-use Rattle.system.specs.Settle.{outOf}
-use Rattle.machine.specs.declared.Ran.{Ran}
 use Rattle.machine.specs.Settled.{settled}
 use Rattle.machine.specs.Instructions.{counted, reached, InstructionsEnd}
 use Rattle.machine.specs.Step.{Steps}
@@ -28,9 +27,9 @@ use Rattle.machine.specs.Advance.{Ready, Advances}
 use Rattle.machine.proofs.QuietStep.{run-on}
 
 -- the step count after the rest of a step
-settled-count : (size : ℕ) (c : Cpu) (con m : List ℕ) (es : List Entry) (d : Done) → settled size c con (result d m es) .cpu .regs .count ≡ c .regs .count
+settled-count : (size : ℕ) (c : Cpu) (con m : List ℕ) (es : List Entry) (o : Out) → settled size c con (result o m es) .cpu .regs .count ≡ c .regs .count
 unfolding settled
-settled-count size c con m es d = refl
+settled-count size c con m es o = refl
 
 -- ---- the quiet steps
 
@@ -47,7 +46,7 @@ module _ (c : Cpu) (left : ℕ) (k : Next) {n : ℕ} (q : n ≡ quietSteps k c l
     quiet-for ks e = subst (λ (x : Next). Quiet x c (c .regs .count + n)) (sym e) quiet
 
     -- the timer has not fired after them
-    module _ {m l : List ℕ} {b : Ran} {m′ l′ : List ℕ} (h : InstructionsEnd c (c .regs .count + n) m l b m′ l′) where
+    module _ {m l : List ℕ} {b : Done} {m′ l′ : List ℕ} (h : InstructionsEnd c (c .regs .count + n) m l b m′ l′) where
       pub all-room : b .end ≡ Ok → Room c (b .regs)
       all-room e = quiet-room k c (c .regs .count + n) quiet (b .regs) (h .later) (omega (arith, h .all e .0))
 
@@ -72,7 +71,7 @@ module _ (c : Cpu) (left : ℕ) (k : Next) {m l : List ℕ} (ready : Ready c lef
         ∙ ap (reached ks (left - 1)) (sym (h .same));
   }
 
-  module _ {n : ℕ} (q : n ≡ quietSteps k c left) (some : 0 < n) {b : Ran} {m′ l′ : List ℕ} (h : InstructionsEnd c (c .regs .count + n) m l b m′ l′) where
+  module _ {n : ℕ} (q : n ≡ quietSteps k c left) (some : 0 < n) {b : Done} {m′ l′ : List ℕ} (h : InstructionsEnd c (c .regs .count + n) m l b m′ l′) where
     -- all quiet steps
     pub advance-all : {con : List ℕ} {x : Cpu} → b .end ≡ Ok → x ≡ afterQuiet c (b .regs) → length m′ ≡ length m
         → Advances c left k m con l (record { cpu = x; left = left - n }) m′ con l′
@@ -90,22 +89,21 @@ module _ (c : Cpu) (left : ℕ) (k : Next) {m l : List ℕ} (ready : Ready c lef
         }
 
     -- up to an instruction that does not end well, and the rest of its step
-    pub advance-early : {con : List ℕ} {y x : Cpu} {d : Done} {m″ con″ l″ : List ℕ} → (b .end ≡ Ok → ⊥) → y ≡ afterQuiet c (counted (b .regs))
-        → d ≡ bad (b .end) → length m′ ≡ length m → Finishes (settleTree (length m′) (length con) y (outOf y d)) y m′ con l′ x m″ con″ l″
+    pub advance-early : {con : List ℕ} {y x : Cpu} {m″ con″ l″ : List ℕ} → (b .end ≡ Ok → ⊥) → y ≡ afterQuiet c (counted (b .regs))
+        → length m′ ≡ length m → Finishes (settleTree (length m′) (length con) y (outOf b)) y m′ con l′ x m″ con″ l″
         → length m″ ≡ length m′
         → Advances c left k m con l (record { cpu = x; left = left - (b .regs .count - c .regs .count) - 1 }) m″ con″ l″
     unfolding settled
-    advance-early {con} {y} {x} {d} {m″} {con″} {l″} e f g z s w =
+    advance-early {con} {y} {x} {m″} {con″} {l″} e f z s w =
         let fits = few c left k q in
         let below = h .early e .0 in
         let after = afterQuiet c (counted (b .regs)) in
-        let rest : stateOf x m″ con″ l″ ≡ settled (length m) after con (result (bad (b .end)) m′ (held l′)) =
+        let rest : stateOf x m″ con″ l″ ≡ settled (length m) after con (result (outOf b) m′ (held l′)) =
         s .same
-        ∙ ap (λ (i : ℕ). settled i y con (result d m′ (held l′))) z
-        ∙ ap (λ (v : Cpu). settled (length m) v con (result d m′ (held l′))) f
-        ∙ ap (λ (v : Done). settled (length m) after con (result v m′ (held l′))) g in
+        ∙ ap (λ (i : ℕ). settled i y con (result (outOf b) m′ (held l′))) z
+        ∙ ap (λ (v : Cpu). settled (length m) v con (result (outOf b) m′ (held l′))) f in
         let count : x .regs .count ≡ b .regs .count + 1 =
-        ap (λ (v : State (List Entry)). v .cpu .regs .count) rest ∙ settled-count (length m) after con m′ (held l′) (bad (b .end)) in
+        ap (λ (v : State (List Entry)). v .cpu .regs .count) rest ∙ settled-count (length m) after con m′ (held l′) (outOf b) in
         record {
           good = s .good;
           less = omega (arith, ready .some);
@@ -114,6 +112,6 @@ module _ (c : Cpu) (left : ℕ) (k : Next) {m l : List ℕ} (ready : Ready c lef
           same = λ ks u.
               ap (λ (i : ℕ). reached ks i (stateOf c m con l)) (omega (arith, fits))
               ∙ h .early e .1 ks (left - n) con (ready .running) (quiet-for c left k q some ks u)
-              ∙ ap (λ (i : ℕ). reached ks i (settled (length m) after con (result (bad (b .end)) m′ (held l′)))) (omega (arith, below, fits, h .later))
+              ∙ ap (λ (i : ℕ). reached ks i (settled (length m) after con (result (outOf b) m′ (held l′)))) (omega (arith, below, fits, h .later))
               ∙ ap (reached ks (left - (b .regs .count - c .regs .count) - 1)) (sym rest);
         }

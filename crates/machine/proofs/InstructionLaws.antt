@@ -1,6 +1,7 @@
 -- Document 01, "One step": instructions one after another: the loop starts, goes on, ends early or at its limit. Assumes nothing.
 use Prim.Native.Nat.{ℕ, _+_, _-_, _≤_, _<_}
 use native.Mathlib.Omega.{arith}
+use mathlib.Core.Bool.{Bool}
 use mathlib.Core.List.{List, [], _∷_}
 use mathlib.Core.Logic.{inl, inr}
 use mathlib.Core.Path.{_≡_, refl, sym, ap, _∙_, subst}
@@ -8,6 +9,7 @@ use lib.ListN.{length}
 use types.Run.{OneOf}
 use denote.Enum.Declared as Declared
 use Rattle.paging.specs.declared.Entry.{Entry}
+use Rattle.paging.specs.declared.Space.{Space}
 use Rattle.paging.specs.Translate.{buffered}
 use Rattle.buffer.specs.Held.{held}
 use Rattle.mmu.specs.Good.{Good}
@@ -16,7 +18,9 @@ use Rattle.rules.specs.declared.Regs.{Regs}
 use Rattle.rules.specs.declared.Cpu.{Cpu}
 use Rattle.rules.specs.declared.Key.{Key}
 use Rattle.rules.specs.declared.Stop.the-variants.{Running}
-use Rattle.rules.specs.Tree.{interpret}
+use Rattle.rules.specs.Record.{withCount}
+use Rattle.rules.specs.Tree.{Tree, interpret}
+use Rattle.rules.specs.Outcome.{Out}
 use Rattle.rules.specs.Execute.{instructionTree}
 use Rattle.rules.specs.Clock.{nextOf}
 use Rattle.rules.specs.Step.{State, step}
@@ -24,12 +28,12 @@ use Rattle.outcome.proofs.End.{the-type as End·type}
 use Rattle.outcome.specs.declared.End.{End}
 use Rattle.outcome.specs.declared.End.the-variants.{Ok}
 use Rattle.outcome.specs.declared.Done.{Done}
-use Rattle.outcome.specs.Contract.{bad, made, stateOf, Executes}
+use Rattle.outcome.specs.Contract.{ok, bad, outBy, outOf, made, stateOf, Executes}
 use Rattle.clock.specs.Quiet.{Quiet, afterQuiet}
 use Rattle.clock.proofs.QuietSteps.{after-none}
-use Rattle.machine.specs.Settled.{shown, settled}
+use Rattle.machine.specs.Settled.{settled}
 use Rattle.machine.specs.Instructions.{counted, instructionFrom, reached, InstructionsEnd, InstructionsMade}
-use Rattle.machine.proofs.SettledLaws.{settled-ok, settled-end}
+use Rattle.machine.proofs.SettledLaws.{settled-ok, settled-count, by-end}
 use Rattle.machine.proofs.QuietStep.{run-on, step-quiet}
 
 -- an end other than Ok
@@ -61,18 +65,18 @@ module _ (c : Cpu) (limit : ℕ) (m l : List ℕ) where
       -- one step more
       one-more : (ks : List Key) (n : ℕ) (con : List ℕ) → c .stop ≡ Running → Quiet (nextOf ks (c .clock .taken)) c limit
           → reached ks (n + (limit - c .regs .count)) (stateOf c m con l)
-          ≡ reached ks (n + (limit - (r .count + 1))) (settled (length m) (afterQuiet c (counted r)) con (result d m″ (held l″)))
+          ≡ reached ks (n + (limit - (r .count + 1))) (settled (length m) (afterQuiet c (counted r)) con (result (outOf d) m″ (held l″)))
       unfolding step
       one-more ks n con runs quiet =
           let rest = n + (limit - (r .count + 1)) in
           b .same ks n con runs quiet
           ∙ run-on ks (n + (limit - r .count)) rest (stateOf (afterQuiet c r) m′ con l′) (omega arith) runs
           ∙ ap (reached ks rest) (step-quiet (nextOf ks (c .clock .taken)) c limit quiet r (b .later) below con h)
-          ∙ ap (λ (size : ℕ). reached ks rest (settled size (afterQuiet c (counted r)) con (result d m″ (held l″)))) (b .size)
+          ∙ ap (λ (size : ℕ). reached ks rest (settled size (afterQuiet c (counted r)) con (result (outOf d) m″ (held l″)))) (b .size)
 
       -- the first step's instruction
       alone : r .count ≡ c .regs .count → (x : Cpu) (con : List ℕ)
-          → settled (length m) x con (result d m″ (held l″)) ≡ settled (length m) x con (instructionFrom c m l)
+          → settled (length m) x con (result (outOf d) m″ (held l″)) ≡ settled (length m) x con (instructionFrom c m l)
       alone e x con =
           let z = b .none e in
           let from : Regs → List ℕ → List ℕ → State (List Entry) = λ q v w.
@@ -83,7 +87,7 @@ module _ (c : Cpu) (limit : ℕ) (m l : List ℕ) where
           ∙ ap (λ (w : List ℕ). from (c .regs) m w) (z .1 .1)
 
       -- it ended well
-      pub instructions-go : d .end ≡ Ok → InstructionsMade c limit m l (record { a = d .a; b = d .b; c = d .c; sp = d .sp; pc = d .pc; count = r .count + 1 }) m″ l″
+      pub instructions-go : d .end ≡ Ok → InstructionsMade c limit m l (withCount (r .count + 1) (d .regs)) m″ l″
       instructions-go e = record {
         good = h .good;
         size = size ∙ b .size;
@@ -91,7 +95,8 @@ module _ (c : Cpu) (limit : ℕ) (m l : List ℕ) where
         within = omega (arith, below);
         none = λ q. absurd (omega (arith, q, b .later));
         first = λ q x con.
-            ap (λ (y : End). settled (length m) x con (result (record { a = d .a; b = d .b; c = d .c; sp = d .sp; pc = d .pc; end = y }) m″ (held l″))) (sym e)
+            settled-count (length m) x con (r .count + 1) (d .regs) m″ (held l″)
+            ∙ ap (λ (y : End). settled (length m) x con (result (outBy (d .regs) y) m″ (held l″))) (sym e)
             ∙ alone (omega (arith, q)) x con;
         same = λ ks n con runs quiet.
             one-more ks n con runs quiet
@@ -99,22 +104,25 @@ module _ (c : Cpu) (limit : ℕ) (m l : List ℕ) where
       }
 
       -- it did not
-      pub instructions-early : (d .end ≡ Ok → ⊥) → InstructionsEnd c limit m l (record { regs = r; end = d .end }) m″ l″
+      pub instructions-early : (d .end ≡ Ok → ⊥) → InstructionsEnd c limit m l (bad r (d .end)) m″ l″
       instructions-early n = record {
         good = h .good;
         later = b .later;
-        first = λ q x con. settled-end (length m) x con (shown r (d .end)) d m″ (held l″) refl n ∙ alone (omega (arith, q, below, b .later)) x con;
+        first = λ q x con.
+            ap (λ (o : Out). settled (length m) x con (result o m″ (held l″))) (by-end r (d .regs) (d .end) n)
+            ∙ alone (omega (arith, q, below, b .later)) x con;
         all = λ e. absurd (n e);
         early = λ _. (
           below,
           λ ks i con runs quiet.
               one-more ks i con runs quiet
-              ∙ ap (reached ks (i + (limit - (r .count + 1)))) (settled-end (length m) (afterQuiet c (counted r)) con d (bad (d .end)) m″ (held l″) refl n),
+              ∙ ap (λ (o : Out). reached ks (i + (limit - (r .count + 1))) (settled (length m) (afterQuiet c (counted r)) con (result o m″ (held l″))))
+              (by-end (d .regs) r (d .end) n),
         );
       }
 
     -- the limit is reached
-    pub instructions-all : limit ≤ r .count → InstructionsEnd c limit m l (record { regs = r; end = Ok }) m′ l′
+    pub instructions-all : limit ≤ r .count → InstructionsEnd c limit m l (ok r) m′ l′
     instructions-all h =
         let e : r .count ≡ limit = omega (arith, b .within, h) in
         record {
@@ -124,3 +132,28 @@ module _ (c : Cpu) (limit : ℕ) (m l : List ℕ) where
           all = λ _. (e, λ ks n con runs quiet. b .same ks n con runs quiet ∙ ap (λ (i : ℕ). reached ks i (stateOf (afterQuiet c r) m′ con l′)) (omega (arith, e)));
           early = λ n. absurd (n refl);
         }
+
+-- ---- the same beside a record: for every record with registers s, in a mode and an address space
+
+abbrev pub MadeFrom : Regs → Bool → Space → ℕ → (m l : List ℕ) → Regs → (m′ l′ : List ℕ) → Type 0
+MadeFrom s user space limit m l r m′ l′ =
+    (c : Cpu) → c .regs ≡ s → user ≡ c .system .user → space ≡ c .space → InstructionsMade c limit m l r m′ l′
+
+pub good-beside : {space space′ : Space} {n : ℕ} {l : List ℕ} → space ≡ space′ → Good n (space′ .pdir) l → Good n (space .pdir) l
+good-beside {n = n} {l} e g = subst (λ (s : Space). Good n (s .pdir) l) (sym e) g
+
+pub executes-beside : {user user′ : Bool} {space space′ : Space} {t : Tree Out} {m l : List ℕ} {d : Done} {m′ l′ : List ℕ}
+    → user ≡ user′ → space ≡ space′ → Executes t space user [] m l d m′ l′ → Executes t space′ user′ [] m l d m′ l′
+executes-beside {user} {space′ = space′} {t} {m} {l} {d} {m′} {l′} u e h =
+    subst (λ (v : Bool). Executes t space′ v [] m l d m′ l′) u (subst (λ (s : Space). Executes t s user [] m l d m′ l′) e h)
+
+module _ (s : Regs) (user : Bool) (space : Space) (limit : ℕ) (m l : List ℕ) where
+  pub from-start : Good (length m) (space .pdir) l → s .count ≤ limit → MadeFrom s user space limit m l s m l
+  from-start g h = λ c e u v.
+      subst (λ (r : Regs). InstructionsMade c limit m l r m l) e
+      (instructions-start c limit m l (good-beside (sym v) g) (omega (arith, h, ap (λ (r : Regs). r .count) e)))
+
+  pub from-go : {r : Regs} {m′ l′ : List ℕ} → MadeFrom s user space limit m l r m′ l′ → r .count < limit → {d : Done} {m″ l″ : List ℕ}
+      → length m″ ≡ length m′ → Executes (instructionTree (counted r)) space user [] m′ l′ d m″ l″ → d .end ≡ Ok
+      → MadeFrom s user space limit m l (withCount (r .count + 1) (d .regs)) m″ l″
+  from-go b below size h told = λ c e u v. instructions-go c limit m l (b c e u v) below size (executes-beside u v h) told

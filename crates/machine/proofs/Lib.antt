@@ -1,3 +1,5 @@
+pub mod Settling
+pub mod SettleLaw
 pub mod SettledLaws
 pub mod QuietStep
 pub mod InstructionLaws

@@ -24,7 +24,7 @@ use Rattle.rules.specs.Clock.{ticked}
 use Rattle.rules.specs.Step.{State, Stepped, settleTree, dueTree, stepTree, finished, steppedBy, stepBy, step}
 use Rattle.rules.specs.Run.{stepsOf, lastOf}
 use Rattle.outcome.specs.declared.Done.{Done}
-use Rattle.outcome.specs.Contract.{stateOf, Executes}
+use Rattle.outcome.specs.Contract.{outOf, stateOf, Executes}
 use Rattle.clock.specs.Quiet.{Quiet, afterQuiet}
 use Rattle.clock.proofs.QuietSteps.{quiet-due, quiet-ticked}
 use Rattle.machine.specs.Settled.{settled}
@@ -48,7 +48,7 @@ module _ (k : Next) (c : Cpu) (limit : ℕ) (q : Quiet k c limit) (r : Regs) (la
 
   -- such a step
   pub step-quiet : {m l m′ l′ : List ℕ} {d : Done} → Executes (instructionTree (counted r)) (c .space) (c .system .user) [] m l d m′ l′
-      → stepBy buffered k (stateOf (afterQuiet c r) m con l) .state ≡ settled (length m) (afterQuiet c (counted r)) con (result d m′ (held l′))
+      → stepBy buffered k (stateOf (afterQuiet c r) m con l) .state ≡ settled (length m) (afterQuiet c (counted r)) con (result (outOf d) m′ (held l′))
   unfolding stepBy stepTree steppedBy dueTree at
   step-quiet {m} {l} {m′} {l′} {d} h =
       let x = afterQuiet c (counted r) in

@@ -17,14 +17,13 @@ use Rattle.rules.specs.Execute.{instructionTree}
 use Rattle.rules.specs.Trap.{ended, deliverTree}
 use Rattle.rules.specs.Clock.{dueOf, ticked}
 use Rattle.rules.specs.Step.{awake, settleTree, dueTree, stepTree, spaceAfter, finished, steppedBy, stepBy}
-use Rattle.outcome.specs.Contract.{made, stateOf, Finishes}
+use Rattle.outcome.specs.declared.Done.{Done}
+use Rattle.outcome.specs.Contract.{outOf, made, stateOf, Finishes}
 use Rattle.outcome.proofs.Steps.{finishes-ended}
 use Rattle.clock.specs.declared.Due.{Due}
 use Rattle.clock.specs.declared.Due.the-variants.{Nothing, Code}
 use Rattle.clock.specs.Due.{dueAs}
-use Rattle.system.specs.Settle.{outOf}
-use Rattle.machine.specs.declared.Ran.{Ran}
-use Rattle.machine.specs.Settled.{shown, settled}
+use Rattle.machine.specs.Settled.{settled}
 use Rattle.machine.specs.Instructions.{InstructionsEnd}
 use Rattle.machine.specs.Step.{Steps}
 use Rattle.machine.proofs.SettledLaws.{settled-law}
@@ -92,15 +91,15 @@ module _ (k : Next) (c : Cpu) {d : Due} (e : d ≡ dueAs (dueOf k c)) {t : Cpu} 
       (subst (λ (b : Bool). Finishes (if b then ended t else tree) t m con l x m con l) (sym w) (finishes-ended {k = t} {c = t} p g))
 
   -- an instruction, and the rest
-  pub step-executes : {b : Ran} {m′ l′ : List ℕ} {x : Cpu} {m″ con″ l″ : List ℕ} → d ≡ Nothing → t .system .waiting ≡ false → length m′ ≡ length m
+  pub step-executes : {b : Done} {m′ l′ : List ℕ} {x : Cpu} {m″ con″ l″ : List ℕ} → d ≡ Nothing → t .system .waiting ≡ false → length m′ ≡ length m
       → InstructionsEnd c (c .regs .count + 1) m l b m′ l′
-      → Finishes (settleTree (length m′) (length con) t (outOf t (shown (b .regs) (b .end)))) t m′ con l′ x m″ con″ l″
+      → Finishes (settleTree (length m′) (length con) t (outOf b)) t m′ con l′ x m″ con″ l″
       → Steps c k m con l x m″ con″ l″
   unfolding dueTree settled ticked
   step-executes {b} {m′} {l′} {x} {m″} {con″} {l″} q w n h s =
       let tree = bind (instructionTree (t .regs)) (settleTree (length m) (length con) t) in
-      let ran : stateOf x m″ con″ l″ ≡ settled (length m) t con (result (shown (b .regs) (b .end)) m′ (held l′)) =
-      s .same ∙ ap (λ (i : ℕ). settled i t con (result (shown (b .regs) (b .end)) m′ (held l′))) n in
+      let ran : stateOf x m″ con″ l″ ≡ settled (length m) t con (result (outOf b) m′ (held l′)) =
+      s .same ∙ ap (λ (i : ℕ). settled i t con (result (outOf b) m′ (held l′))) n in
       let whole : stateOf x m″ con″ l″
       ≡ finished buffered (t .regs .count) (t .space) (t .written) con (interpret buffered (t .space) (t .system .user) tree m (held l) []) =
       ran

@@ -14,23 +14,23 @@ use Rattle.rules.specs.declared.Key.{Key}
 use Rattle.rules.specs.declared.Stop.the-variants.{Running}
 use Rattle.rules.specs.Record.{withCount}
 use Rattle.rules.specs.Tree.{interpret}
+use Rattle.rules.specs.Outcome.{Out}
 use Rattle.rules.specs.Execute.{instructionTree}
 use Rattle.rules.specs.Clock.{nextOf}
 use Rattle.rules.specs.Step.{State}
 use Rattle.rules.specs.Run.{stepsOf, lastOf}
 use Rattle.outcome.specs.declared.Done.{Done}
 use Rattle.outcome.specs.declared.End.the-variants.{Ok}
-use Rattle.outcome.specs.Contract.{bad, made, stateOf}
+use Rattle.outcome.specs.Contract.{ok, outOf, made, stateOf}
 use Rattle.clock.specs.Quiet.{Quiet, afterQuiet}
-use Rattle.machine.specs.declared.Ran.{Ran}
-use Rattle.machine.specs.Settled.{shown, settled}
+use Rattle.machine.specs.Settled.{settled}
 
 -- "Step count rises by 1"
 abbrev pub counted : Regs → Regs
 counted r = withCount (r .count + 1) r
 
 -- the instruction of the step from c
-abbrev pub instructionFrom : Cpu → (m l : List ℕ) → Result Done
+abbrev pub instructionFrom : Cpu → (m l : List ℕ) → Result Out
 instructionFrom c m l = made (interpret buffered (c .space) (c .system .user) (instructionTree (counted (c .regs))) m (held l) [])
 
 -- the state in which a run of at most n steps from s ends
@@ -38,12 +38,12 @@ abbrev pub reached : List Key → ℕ → State (List Entry) → State (List Ent
 reached ks n s = lastOf s (stepsOf buffered ks n s)
 
 -- from c, memory m and buffer l, instructions up to the step count `limit` ended as b says, with memory m′ and buffer l′
-pub record InstructionsEnd (c : Cpu) (limit : ℕ) (m l : List ℕ) (b : Ran) (m′ l′ : List ℕ) : Type 0 where
+pub record InstructionsEnd (c : Cpu) (limit : ℕ) (m l : List ℕ) (b : Done) (m′ l′ : List ℕ) : Type 0 where
   pub good : Good (length m′) (c .space .pdir) l′
   pub later : c .regs .count ≤ b .regs .count
   -- a limit of one step: it is that step's instruction, whatever is due
   pub first : limit ≡ c .regs .count + 1 → (x : Cpu) (con : List ℕ)
-      → settled (length m) x con (result (shown (b .regs) (b .end)) m′ (held l′)) ≡ settled (length m) x con (instructionFrom c m l)
+      → settled (length m) x con (result (outOf b) m′ (held l′)) ≡ settled (length m) x con (instructionFrom c m l)
   -- all ended well: all steps up to the limit are made
   pub all : b .end ≡ Ok → (b .regs .count ≡ limit)
       × ((ks : List Key) (n : ℕ) (con : List ℕ) → c .stop ≡ Running → Quiet (nextOf ks (c .clock .taken)) c limit
@@ -52,7 +52,7 @@ pub record InstructionsEnd (c : Cpu) (limit : ℕ) (m l : List ℕ) (b : Ran) (m
   pub early : (b .end ≡ Ok → ⊥) → (b .regs .count < limit)
       × ((ks : List Key) (n : ℕ) (con : List ℕ) → c .stop ≡ Running → Quiet (nextOf ks (c .clock .taken)) c limit
       → reached ks (n + (limit - c .regs .count)) (stateOf c m con l)
-      ≡ reached ks (n + (limit - (b .regs .count + 1))) (settled (length m) (afterQuiet c (counted (b .regs))) con (result (bad (b .end)) m′ (held l′))))
+      ≡ reached ks (n + (limit - (b .regs .count + 1))) (settled (length m) (afterQuiet c (counted (b .regs))) con (result (outOf b) m′ (held l′))))
 
 -- the same on the way: all steps up to the step count of r are made
 pub record InstructionsMade (c : Cpu) (limit : ℕ) (m l : List ℕ) (r : Regs) (m′ l′ : List ℕ) : Type 0 where
@@ -62,6 +62,6 @@ pub record InstructionsMade (c : Cpu) (limit : ℕ) (m l : List ℕ) (r : Regs) 
   pub within : r .count ≤ limit
   pub none : r .count ≡ c .regs .count → (r ≡ c .regs) × ((m′ ≡ m) × (l′ ≡ l))
   pub first : r .count ≡ c .regs .count + 1 → (x : Cpu) (con : List ℕ)
-      → settled (length m) x con (result (shown r Ok) m′ (held l′)) ≡ settled (length m) x con (instructionFrom c m l)
+      → settled (length m) x con (result (outOf (ok r)) m′ (held l′)) ≡ settled (length m) x con (instructionFrom c m l)
   pub same : (ks : List Key) (n : ℕ) (con : List ℕ) → c .stop ≡ Running → Quiet (nextOf ks (c .clock .taken)) c limit
       → reached ks (n + (limit - c .regs .count)) (stateOf c m con l) ≡ reached ks (n + (limit - r .count)) (stateOf (afterQuiet c r) m′ con l′)

@@ -4,7 +4,9 @@ ghost use mathlib.Core.List.{List};
 ghost use Prim.Native.Nat.{ℕ, _+_, _≤_, _<_, _^_};
 ghost use lib.ListN.{length};
 ghost use Rattle.mmu.specs.Good.{Good};
-ghost use Rattle.rules.specs.Step.{awake as awakeOf};
+ghost use Rattle.rules.specs.Record.{withCount, withRegs};
+ghost use Rattle.rules.specs.Step.{awake as awakeOf, settleTree};
+ghost use Rattle.outcome.specs.Contract.{outOf, Finishes};
 ghost use Rattle.clock.specs.Due.{KeyFits};
 ghost use Rattle.machine.specs.Instructions.{counted as countedOf, InstructionsEnd};
 ghost use Rattle.machine.specs.Step.{Steps};
@@ -12,15 +14,10 @@ ghost use Rattle.machine.specs.Advance.{Ready, Advances};
 use clock::Due;
 use outcome::Done;
 use outcome::End;
+use paging::Space;
 use rules::Cpu;
 use rules::Next;
 use rules::Regs;
-
-// How far instructions went, and why they ended there.
-pub struct Ran {
-    pub regs: Regs,
-    pub end: End,
-}
 
 // A record on its way through a run, with the steps that are left.
 pub struct Going {
@@ -29,48 +26,65 @@ pub struct Going {
 }
 
 // Instructions one after another, with no clock event between them, up to the step count `limit`, or to the first that does not end well: that one is not
-// counted. This is the one call site of `execute::instruction`: with a second one it is no longer inlined.
-fn instructions(c: Cpu, limit: u64, mem: &mut [u8], tlb: &mut [u64], hint: &mut [u8; 256]) -> Ran
+// counted. This is the one call site of `execute::instruction`: with a second one it is no longer inlined. The mode and the address space stand beside c, so
+// that an access finds them in machine registers.
+fn instructions(
+    c: Cpu,
+    limit: u64,
+    user: bool,
+    space: Space,
+    mem: &mut [u8],
+    tlb: &mut [u64],
+    hint: &mut [u8; 256],
+) -> Done
     requires { ⌜ Good (length (now mem)) (c .space .pdir) (now tlb) × (c .regs .count ≤ limit) ⌝ }
+    requires { ⌜ (user ≡ c .system .user) × (space ≡ c .space) ⌝ }
     ensures { λ b. ⌜ InstructionsEnd c limit (now (mem .entry)) (now (tlb .entry)) b (now (mem .exit)) (now (tlb .exit)) ⌝ }
 {
-    let mut a = c.regs.a;
-    let mut b = c.regs.b;
-    let mut x = c.regs.c;
-    let mut sp = c.regs.sp;
-    let mut pc = c.regs.pc;
-    let mut count = c.regs.count;
-    while count < limit {
-        let r = Regs {
-            a,
-            b,
-            c: x,
-            sp,
-            pc,
-            count,
-        };
-        let d = execute::instruction(r, c.system.user, c.space, mem, tlb, hint);
+    let mut r = c.regs;
+    while r.count < limit {
+        let d = execute::instruction(r, user, space, mem, tlb, hint);
         let e = d.end;
         let End::Ok = e else {
-            return Ran { regs: r, end: e };
+            return outcome::ended(r, e);
         };
-        a = d.a;
-        b = d.b;
-        x = d.c;
-        sp = d.sp;
-        pc = d.pc;
-        count = count + 1;
+        let count = r.count + 1;
+        r = d.regs;
+        r.count = count;
     }
-    Ran {
-        regs: Regs {
-            a,
-            b,
-            c: x,
-            sp,
-            pc,
-            count,
-        },
-        end: End::Ok,
+    outcome::fine(r)
+}
+
+// The record with the registers that an instruction left.
+fn with_done(c: Cpu, d: Done) -> Cpu
+    ensures { λ x. ⌜ x ≡ withRegs (withCount (c .regs .count) (d .regs)) c ⌝ }
+{
+    let mut regs = d.regs;
+    regs.count = c.regs.count;
+    let mut n = c;
+    n.regs = regs;
+    n
+}
+
+// The rest of a step after its instruction: c is the record before the fetch.
+fn settle(
+    c: Cpu,
+    d: Done,
+    mem: &mut [u8],
+    console: &mut [u8],
+    tlb: &mut [u64],
+    hint: &mut [u8; 256],
+) -> Cpu
+    requires { ⌜ Good (length (now mem)) (c .space .pdir) (now tlb) ⌝ }
+    ensures { λ x. ⌜ Finishes (settleTree (length (now (mem .entry))) (length (now (console .entry))) c (outOf d)) c (now (mem .entry)) (now (console .entry)) (now (tlb .entry)) x (now (mem .exit)) (now (console .exit)) (now (tlb .exit)) ⌝ }
+{
+    let e = d.end;
+    match e {
+        End::Ok => with_done(c, d),
+        End::Unfetched(f) => trap::fault(c, f, c.regs.pc, mem, tlb, hint),
+        End::Trap(code) => trap::trap(c, code, trap::next_pc(c), mem, tlb, hint),
+        End::Refused(f) => trap::fault(c, f, trap::next_pc(c), mem, tlb, hint),
+        End::System(op) => system::system(c, op, mem, console, tlb, hint),
     }
 }
 
@@ -105,18 +119,8 @@ pub fn step(
     if t.system.waiting {
         return t;
     }
-    let b = instructions(c, c.regs.count + 1, mem, tlb, hint);
-    let r = b.regs;
-    let e = b.end;
-    let done = Done {
-        a: r.a,
-        b: r.b,
-        c: r.c,
-        sp: r.sp,
-        pc: r.pc,
-        end: e,
-    };
-    system::settle(t, done, mem, console, tlb, hint)
+    let b = instructions(c, c.regs.count + 1, c.system.user, c.space, mem, tlb, hint);
+    settle(t, b, mem, console, tlb, hint)
 }
 
 // The step is counted.
@@ -150,12 +154,12 @@ pub fn advance(
             left: left - 1,
         };
     }
-    let b = instructions(c, c.regs.count + n, mem, tlb, hint);
+    let b = instructions(c, c.regs.count + n, c.system.user, c.space, mem, tlb, hint);
     let r = b.regs;
     let e = b.end;
     let End::Ok = e else {
         let y = clock::quiet::after(c, counted(r));
-        let x = system::settle(y, outcome::ended(e), mem, console, tlb, hint);
+        let x = settle(y, b, mem, console, tlb, hint);
         return Going {
             cpu: x,
             left: left - (r.count - c.regs.count) - 1,

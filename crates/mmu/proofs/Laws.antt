@@ -10,9 +10,10 @@ use Rattle.memory.specs.Memory.{storeN, bytes}
 use Rattle.memory.proofs.Laws.{length-store}
 use Rattle.paging.specs.declared.Access.{Access}
 use Rattle.paging.specs.declared.Answer.{Answer}
+use Rattle.paging.specs.declared.Space.{Space}
 use Rattle.paging.specs.declared.Answer.the-variants.{At}
 use Rattle.paging.specs.Buffer.{bufferOk}
-use Rattle.paging.specs.Translate.{Request, translateBy}
+use Rattle.paging.specs.Translate.{Request, buffered}
 use Rattle.paging.proofs.BufferLaws.{empty-ok}
 use Rattle.paging.proofs.ValidBuffer.{Keeps, request-keeps}
 use Rattle.buffer.specs.Held.{held, Buffer}
@@ -22,31 +23,31 @@ use Rattle.mmu.proofs.Rules.{Within, translate-within}
 
 -- ---- a translated access
 
-module _ {pdir : ℕ} {m l : List ℕ} (g : Good (length m) pdir l) (paging : Bool) (q : Request) where
-  keeps : Keeps (record { pdir = pdir; paging = paging }) m (translateBy paging pdir q m (held l) .mem) (translateBy paging pdir q m (held l) .buffer)
+module _ {s : Space} {m l : List ℕ} (g : Good (length m) (s .pdir) l) (q : Request) where
+  keeps : Keeps s m (buffered .translate s q m (held l) .mem) (buffered .translate s q m (held l) .buffer)
   keeps =
-      let a : pdir % 4 ≡ 0 = omega (arith, g .directory .aligned) in
-      request-keeps (record { pdir = pdir; paging = paging }) q m (held l) (record { aligned = a; whole = g .directory .whole; ok = g .entries })
+      let a : s .pdir % 4 ≡ 0 = omega (arith, g .directory .aligned) in
+      request-keeps s q m (held l) (record { aligned = a; whole = g .directory .whole; ok = g .entries })
 
   -- what is equal to the rules' outcome is good
-  pub translated : {a : Answer} {m′ l′ : List ℕ} → state a m′ (held l′) ≡ seen (translateBy paging pdir q m (held l)) → Buffer l′
-      → Translates paging pdir q m l a m′ l′
+  pub translated : {a : Answer} {m′ l′ : List ℕ} → state a m′ (held l′) ≡ seen (buffered .translate s q m (held l)) → Buffer l′
+      → Translates s q m l a m′ l′
   translated {a} {m′} {l′} e b =
-      let z : length m′ ≡ length m = ap (λ (s : State Answer). length (s .mem)) e ∙ keeps .size in
-      let o : bufferOk (length m′) (held l′) ≡ true = rw (ap (λ (s : State Answer). s .mem) e, ap (λ (s : State Answer). s .buffer) e) (keeps .valid .ok) in
+      let z : length m′ ≡ length m = ap (λ (x : State Answer). length (x .mem)) e ∙ keeps .size in
+      let o : bufferOk (length m′) (held l′) ≡ true = rw (ap (λ (x : State Answer). x .mem) e, ap (λ (x : State Answer). x .buffer) e) (keeps .valid .ok) in
       record { same = e; good = record { directory = rw z (g .directory); buffer = b; entries = o } }
 
-pub length-kept : {paging : Bool} {pdir : ℕ} {q : Request} {m l : List ℕ} {a : Answer} {m′ l′ : List ℕ}
-    → Good (length m) pdir l → Translates paging pdir q m l a m′ l′ → length m′ ≡ length m
-length-kept {paging} {pdir} {q} g t = ap (λ (s : State Answer). length (s .mem)) (t .same) ∙ keeps g paging q .size
+pub length-kept : {s : Space} {q : Request} {m l : List ℕ} {a : Answer} {m′ l′ : List ℕ}
+    → Good (length m) (s .pdir) l → Translates s q m l a m′ l′ → length m′ ≡ length m
+length-kept {s} {q} g t = ap (λ (x : State Answer). length (x .mem)) (t .same) ∙ keeps {s = s} g q .size
 
 -- an answered address lies in memory with all its bytes
-pub at-within : (s : Size) {paging : Bool} {pdir : ℕ} {k : Access} {addr : ℕ} {user : Bool} {m l : List ℕ} {a : Answer} {m′ l′ : List ℕ} {p : ℕ}
-    → Good (length m) pdir l → Translates paging pdir (request k s addr user) m l a m′ l′ → a ≡ At p → p + bytes s ≤ length m′
+pub at-within : (n : Size) {s : Space} {k : Access} {addr : ℕ} {user : Bool} {m l : List ℕ} {a : Answer} {m′ l′ : List ℕ} {p : ℕ}
+    → Good (length m) (s .pdir) l → Translates s (request k n addr user) m l a m′ l′ → a ≡ At p → p + bytes n ≤ length m′
 unfolding Within
-at-within s {paging} {pdir} {k} {addr} {user} {m} {l} {a} {m′} {l′} {p} g t e =
-    let w = translate-within k s addr user m (g .directory .whole) paging pdir (held l) (g .entries) in
-    let w′ : p + bytes s ≤ length m = subst (Within (length m) (bytes s)) (ap (λ (x : State Answer). x .answer) (sym (t .same)) ∙ e) w in
+at-within n {s} {k} {addr} {user} {m} {l} {a} {m′} {l′} {p} g t e =
+    let w = translate-within k n addr user m (g .directory .whole) (s .paging) (s .pdir) (held l) (g .entries) in
+    let w′ : p + bytes n ≤ length m = subst (Within (length m) (bytes n)) (ap (λ (x : State Answer). x .answer) (sym (t .same)) ∙ e) w in
     rw (length-kept g t) w′
 
 -- ---- what stays good

@@ -13,6 +13,7 @@ use Rattle.memory.specs.Memory.{bytes}
 use Rattle.paging.specs.declared.Access.{Access}
 use Rattle.paging.specs.declared.Entry.{Entry}
 use Rattle.paging.specs.declared.Answer.{Answer}
+use Rattle.paging.specs.declared.Space.{Space}
 use Rattle.paging.specs.declared.Answer.the-variants.{At}
 use Rattle.paging.specs.TrapCode.{FMEM}
 use Rattle.paging.specs.Walk.{Found, fault, found, walk}
@@ -91,38 +92,38 @@ module _ (pdir : ℕ) (q : Request) (m l : List ℕ) (g : Good (length m) pdir l
 
 -- ---- a hit, and a miss
 
-module _ {paging : Bool} (pdir : ℕ) (q : Request) (m l : List ℕ) (g : Good (length m) pdir l) where
-  module _ (small : q .addr < 4294967296) (on : paging ≡ true) (i : ℕ) {h : Hit} (p : h ≡ slotHit l i (q .addr / 4096) (q .kind) (q .user)) where
-    pub translate-hit : {f at : ℕ} → h ≡ Frame f → at ≡ f * 4096 + cut (q .size) (q .addr) % 4096 → Translates paging pdir q m l (At at) m l
+module _ (s : Space) (q : Request) (m l : List ℕ) (g : Good (length m) (s .pdir) l) where
+  module _ (small : q .addr < 4294967296) (on : s .paging ≡ true) (i : ℕ) {h : Hit} (p : h ≡ slotHit l i (q .addr / 4096) (q .kind) (q .user)) where
+    pub translate-hit : {f at : ℕ} → h ≡ Frame f → at ≡ f * 4096 + cut (q .size) (q .addr) % 4096 → Translates s q m l (At at) m l
     unfolding translateBy paged pagedBy
     translate-hit {f} e a =
-        let s : hit (q .addr / 4096) (q .kind) (q .user) (held l) ≡ some f =
+        let z : hit (q .addr / 4096) (q .kind) (q .user) (held l) ≡ some f =
         slot-frame l i (q .addr / 4096) (q .kind) (q .user) (length m) (g .buffer) (g .entries) (sym p ∙ e) in
-        record { same = rw (on, page-is (q .addr) small, s, a); good = g }
+        record { same = rw (on, page-is (q .addr) small, z, a); good = g }
 
-    pub translate-miss : {a : Answer} {m′ l′ : List ℕ} → h ≡ Miss → i ≡ indexOf (q .addr / 4096) (held l) → Refills pdir q m l a m′ l′
-        → Translates paging pdir q m l a m′ l′
+    pub translate-miss : {a : Answer} {m′ l′ : List ℕ} → h ≡ Miss → i ≡ indexOf (q .addr / 4096) (held l) → Refills (s .pdir) q m l a m′ l′
+        → Translates s q m l a m′ l′
     unfolding translateBy paged
     translate-miss e j t =
-        let s : hit (q .addr / 4096) (q .kind) (q .user) (held l) ≡ none =
+        let z : hit (q .addr / 4096) (q .kind) (q .user) (held l) ≡ none =
         slot-miss l i (q .addr / 4096) (q .kind) (q .user) (length m) (g .buffer) (g .entries) j (sym p ∙ e) in
-        translated g paging q (rw (on, page-is (q .addr) small, s) (t .same)) (t .buffer)
+        translated g q (rw (on, page-is (q .addr) small, z) (t .same)) (t .buffer)
 
   -- ---- paging off
 
-  pub translate-at : {at : ℕ} → paging ≡ false → q .addr < length m → at ≡ cut (q .size) (q .addr) → Translates paging pdir q m l (At at) m l
+  pub translate-at : {at : ℕ} → s .paging ≡ false → q .addr < length m → at ≡ cut (q .size) (q .addr) → Translates s q m l (At at) m l
   unfolding translateBy direct
   translate-at off h e = record { same = rw (off, lt-ltb _ _ h, e); good = g }
 
-  pub translate-beyond : {a : Answer} → paging ≡ false → length m ≤ q .addr → a ≡ denied FMEM q → Translates paging pdir q m l a m l
+  pub translate-beyond : {a : Answer} → s .paging ≡ false → length m ≤ q .addr → a ≡ denied FMEM q → Translates s q m l a m l
   unfolding translateBy direct
   translate-beyond off h d = record { same = rw (off, le-ltb _ _ h, d); good = g }
 
 -- ---- an answer, and an aligned address
 
 -- the same answer
-pub answered : {paging : Bool} {pdir : ℕ} {q : Request} {m l : List ℕ} {a b : Answer} {m′ l′ : List ℕ} → b ≡ a → Translates paging pdir q m l a m′ l′
-    → Translates paging pdir q m l b m′ l′
+pub answered : {s : Space} {q : Request} {m l : List ℕ} {a b : Answer} {m′ l′ : List ℕ} → b ≡ a → Translates s q m l a m′ l′
+    → Translates s q m l b m′ l′
 answered e t = rw e t
 
 pub aligned : (a : ℕ) {s s′ : Size} (r : ℕ) → s ≡ s′ → r ≡ cut (bytes s′) a → r ≡ cut (bytes s) a

@@ -9,8 +9,9 @@ use Rattle.memory.specs.declared.Size.{Size}
 use Rattle.memory.specs.Memory.{bytes}
 use Rattle.paging.specs.declared.Access.{Access}
 use Rattle.paging.specs.declared.Entry.{Entry}
+use Rattle.paging.specs.declared.Space.{Space}
 use Rattle.paging.specs.declared.Answer.{Answer}
-use Rattle.paging.specs.Translate.{Request, Outcome, pagedBy, translateBy}
+use Rattle.paging.specs.Translate.{Request, Outcome, pagedBy, buffered}
 use Rattle.buffer.specs.Held.{held, Buffer}
 use Rattle.mmu.specs.Good.{Good}
 
@@ -31,10 +32,14 @@ state a m es = record { answer = a; mem = m; buffer = es }
 abbrev pub seen : {A : Type 0} → Outcome (List Entry) A → State A
 seen o = state (o .answer) (o .mem) (o .buffer)
 
+-- an address space, of its parts
+abbrev pub spaceOf : Bool → ℕ → Space
+spaceOf paging pdir = record { pdir = pdir; paging = paging }
+
 -- an access is translated as the rules say: from memory m and the lent buffer l to the answer a, memory m′ and buffer l′
-pub record Translates (paging : Bool) (pdir : ℕ) (q : Request) (m l : List ℕ) (a : Answer) (m′ l′ : List ℕ) : Type 0 where
-  pub same : state a m′ (held l′) ≡ seen (translateBy paging pdir q m (held l))
-  pub good : Good (length m′) pdir l′
+pub record Translates (s : Space) (q : Request) (m l : List ℕ) (a : Answer) (m′ l′ : List ℕ) : Type 0 where
+  pub same : state a m′ (held l′) ≡ seen (buffered .translate s q m (held l))
+  pub good : Good (length m′) (s .pdir) l′
 
 -- an access that no entry serves is translated as the rules say: by a walk
 pub record Refills (pdir : ℕ) (q : Request) (m l : List ℕ) (a : Answer) (m′ l′ : List ℕ) : Type 0 where

@@ -7,12 +7,13 @@ ghost use Rattle.memory.specs.Memory.{bytes};
 ghost use Rattle.paging.specs.declared.Answer.the-variants.{Denied};
 ghost use Rattle.buffer.specs.Held.{held, indexOf};
 ghost use Rattle.mmu.specs.Good.{Good};
-ghost use Rattle.mmu.specs.State.{request, Refills, Translates};
+ghost use Rattle.mmu.specs.State.{request, spaceOf, Refills, Translates};
 use buffer::Hit;
 use memory::Size;
 use paging::Access;
 use paging::Answer;
 use paging::Fault;
+use paging::Space;
 use walk::PageWalk;
 
 // An address with its low bits dropped to the natural size.
@@ -72,7 +73,8 @@ fn refill(
     }
 }
 
-// Translation without the hint: paging off, then a search of the buffer, then a walk. The hint learns where the page's entry stands.
+// Translation without the hint: paging off, then a search of the buffer, then a walk. The hint learns where the page's entry stands. It takes
+// the address space in parts: a struct that a function out of line takes is in memory in the whole inner loop, which then costs twice as much.
 fn translate_slow(
     mem: &mut [u8],
     tlb: &mut [u64],
@@ -85,13 +87,13 @@ fn translate_slow(
     user: bool,
 ) -> Answer
     requires { ⌜ Good (length (now mem)) pdir (now tlb) ⌝ }
-    ensures { λ r. ⌜ Translates paging pdir (request kind size addr user) (now (mem .entry)) (now (tlb .entry)) r (now (mem .exit)) (now (tlb .exit)) ⌝ }
+    ensures { λ r. ⌜ Translates (spaceOf paging pdir) (request kind size addr user) (now (mem .entry)) (now (tlb .entry)) r (now (mem .exit)) (now (tlb .exit)) ⌝ }
 {
     if !paging {
         if (addr as usize) < mem.len() {
             return Answer::At(align(addr, size) as usize);
         }
-        return denied(walk::FMEM, addr);
+        return denied(paging::FMEM, addr);
     }
     let page = addr / 4096;
     let i = buffer::lookup(tlb, page as u64);
@@ -119,22 +121,31 @@ pub fn translate(
     mem: &mut [u8],
     tlb: &mut [u64],
     hint: &mut [u8; 256],
-    paging: bool,
-    pdir: u32,
+    space: Space,
     addr: u32,
     size: Size,
     kind: Access,
     user: bool,
 ) -> Answer
-    requires { ⌜ Good (length (now mem)) pdir (now tlb) ⌝ }
-    ensures { λ r. ⌜ Translates paging pdir (request kind size addr user) (now (mem .entry)) (now (tlb .entry)) r (now (mem .exit)) (now (tlb .exit)) ⌝ }
+    requires { ⌜ Good (length (now mem)) (space .pdir) (now tlb) ⌝ }
+    ensures { λ r. ⌜ Translates space (request kind size addr user) (now (mem .entry)) (now (tlb .entry)) r (now (mem .exit)) (now (tlb .exit)) ⌝ }
 {
-    if paging {
+    if space.paging {
         let page = addr / 4096;
         let h = wide(hint[(page % 256) as usize]);
         let hit = buffer::slot(tlb, h, page as u64, kind, user);
         let Hit::Frame(frame) = hit else {
-            let a = translate_slow(mem, tlb, hint, paging, pdir, addr, size, kind, user);
+            let a = translate_slow(
+                mem,
+                tlb,
+                hint,
+                space.paging,
+                space.pdir,
+                addr,
+                size,
+                kind,
+                user,
+            );
             return again(a);
         };
         return Answer::At(in_frame(frame, addr, size));
@@ -142,7 +153,17 @@ pub fn translate(
     if (addr as usize) < mem.len() {
         return Answer::At(align(addr, size) as usize);
     }
-    let a = translate_slow(mem, tlb, hint, paging, pdir, addr, size, kind, user);
+    let a = translate_slow(
+        mem,
+        tlb,
+        hint,
+        space.paging,
+        space.pdir,
+        addr,
+        size,
+        kind,
+        user,
+    );
     again(a)
 }
 

@@ -22,7 +22,7 @@ use Rattle.rules.specs.Tree.{access, Reply, got, denied, Tree, ask, done, Grant
 use Rattle.rules.specs.Outcome.{Out, fine, unfetched, trap, refused, system, orRefused, reading, writing}
 use Rattle.outcome.specs.declared.Done.{Done}
 use Rattle.outcome.specs.declared.End.the-variants as end
-use Rattle.outcome.specs.Contract.{ok, bad, faultOf, madeBy, made, Executes}
+use Rattle.outcome.specs.Contract.{ok, bad, faultOf, refusedBy, madeBy, made, Executes}
 use Rattle.outcome.proofs.Trees.{asked}
 
 -- ---- ends
@@ -40,22 +40,22 @@ module _ {s : Space} {user : Bool} {gs : List Grant} {m l : List ℕ} (g : Good 
   executes-fine h = record { same = rw (h, store-none gs m); good = g }
 
   -- a denied fetch
-  pub executes-unfetched : {f : Fault} → d ≡ bad (end.Unfetched f) → Executes (done (unfetched f)) s user gs m l d m l
+  pub executes-unfetched : {r : Regs} {f : Fault} → d ≡ bad r (end.Unfetched f) → Executes (done (unfetched f)) s user gs m l d m l
   unfolding interpret madeBy
   executes-unfetched h = record { same = rw h; good = g }
 
   -- a fault without an address, or TRAP
-  pub executes-trap : {code : ℕ} → d ≡ bad (end.Trap code) → Executes (done (trap code)) s user gs m l d m l
+  pub executes-trap : {r : Regs} {code : ℕ} → d ≡ bad r (end.Trap code) → Executes (done (trap code)) s user gs m l d m l
   unfolding interpret madeBy
   executes-trap h = record { same = rw h; good = g }
 
   -- a denied operand access
-  pub executes-refused : {f : Fault} → d ≡ bad (end.Refused f) → Executes (done (refused f)) s user gs m l d m l
+  pub executes-refused : {r : Regs} {f : Fault} → d ≡ bad r (end.Refused f) → Executes (done (refused f)) s user gs m l d m l
   unfolding interpret madeBy
   executes-refused h = record { same = rw h; good = g }
 
   -- a privileged instruction
-  pub executes-system : {op : SysOp} → d ≡ bad (end.System op) → Executes (done (system op)) s user gs m l d m l
+  pub executes-system : {r : Regs} {op : SysOp} → d ≡ bad r (end.System op) → Executes (done (system op)) s user gs m l d m l
   unfolding interpret madeBy
   executes-system h = record { same = rw h; good = g }
 
@@ -68,7 +68,7 @@ module _ {s : Space} {user : Bool} {gs : List Grant} {m l : List ℕ} (g : Good 
 -- ---- accesses
 
 module _ {s : Space} {user : Bool} {gs : List Grant} {kind : Access} {n va : ℕ} {m l : List ℕ} {a : Answer} {m′ l′ : List ℕ}
-    (t : Translates (s .paging) (s .pdir) (requested kind n va user) m l a m′ l′) (k : Reply → Tree Out) {d : Done} {m″ l″ : List ℕ} where
+    (t : Translates s (requested kind n va user) m l a m′ l′) (k : Reply → Tree Out) {d : Done} {m″ l″ : List ℕ} where
   -- an access, however the code was answered
   executes-ask : Executes (k (replyTo kind n m′ a .reply)) s user (replyTo kind n m′ a .grants ++ gs) m′ l′ d m″ l″
       → Executes (ask (access kind n va) k) s user gs m l d m″ l″
@@ -100,25 +100,24 @@ fault-told e q = rw e at q
 
 module _ {s : Space} {user : Bool} {gs : List Grant} {n va : ℕ} {m l : List ℕ} {a : Answer} {m′ l′ : List ℕ} where
   -- an operand access that is denied
-  pub executes-denied : {kind : Access} → Translates (s .paging) (s .pdir) (requested kind n va user) m l a m′ l′ → {k : ℕ → Tree Out}
-      {x f : Fault} {d : Done} → a ≡ Denied x → f ≡ faultOf a → d ≡ bad (end.Refused f)
-      → Executes (ask (access kind n va) (orRefused k)) s user gs m l d m′ l′
-  executes-denied t e q h = executes-not t _ e (executes-refused (t .good) (rw (← fault-told e q) h))
+  pub executes-denied : {kind : Access} → Translates s (requested kind n va user) m l a m′ l′ → {k : ℕ → Tree Out}
+      {r : Regs} {x : Fault} {d : Done} → a ≡ Denied x → d ≡ refusedBy r a → Executes (ask (access kind n va) (orRefused k)) s user gs m l d m′ l′
+  executes-denied t e h = executes-not t _ e (executes-refused (t .good) (rw e at h))
 
   -- an operand that is read
-  pub executes-read : Translates (s .paging) (s .pdir) (requested Read n va user) m l a m′ l′ → {k : ℕ → Tree Out} {p v : ℕ}
+  pub executes-read : Translates s (requested Read n va user) m l a m′ l′ → {k : ℕ → Tree Out} {p v : ℕ}
       {d : Done} {m″ l″ : List ℕ} → a ≡ At p → v ≡ loadN n m′ p → Executes (k v) s user gs m′ l′ d m″ l″ → Executes (reading n va k) s user gs m l d m″ l″
   unfolding isWrite
   executes-read t e f h = executes-got t _ refl e f h
 
   -- an access for writing that is granted
-  pub executes-write : Translates (s .paging) (s .pdir) (requested Write n va user) m l a m′ l′ → {k : ℕ → Tree Out} {p : ℕ}
+  pub executes-write : Translates s (requested Write n va user) m l a m′ l′ → {k : ℕ → Tree Out} {p : ℕ}
       {d : Done} {m″ l″ : List ℕ} → a ≡ At p → Executes (k (loadN n m′ p)) s user (grant p n ∷ gs) m′ l′ d m″ l″
       → Executes (ask (access Write n va) (orRefused k)) s user gs m l d m″ l″
   unfolding isWrite
   executes-write t e h = executes-granted t _ refl e h
 
   -- the same with its store, to the end
-  pub executes-written : Translates (s .paging) (s .pdir) (requested Write n va user) m l a m′ l′ → {r : Regs} {p v : ℕ}
+  pub executes-written : Translates s (requested Write n va user) m l a m′ l′ → {r : Regs} {p v : ℕ}
       {d : Done} {m″ : List ℕ} → a ≡ At p → d ≡ ok r → m″ ≡ storeN n m′ p v → Executes (writing n va v r) s user gs m l d m″ l′
   executes-written t e h q = executes-write t e (executes-stored (t .good) h q)

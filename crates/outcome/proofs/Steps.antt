@@ -65,7 +65,7 @@ module _ {k : Cpu} {m con l : List ℕ} {c x : Cpu} where
 module _ {k : Cpu} {con : List ℕ} {n va : ℕ} {m l : List ℕ} {a : Answer} {m′ l′ : List ℕ} (f : Reply → Tree Final)
     {c : Cpu} {m″ con″ l″ : List ℕ} where
   -- denied: the tree goes on with the fault
-  pub finishes-denied : {kind : Access} → Translates (k .space .paging) (k .space .pdir) (requested kind n va (k .system .user)) m l a m′ l′
+  pub finishes-denied : {kind : Access} → Translates (k .space) (requested kind n va (k .system .user)) m l a m′ l′
       → {x y : Fault} → a ≡ Denied x → y ≡ faultOf a → Finishes (f (denied y)) k m′ con l′ c m″ con″ l″
       → Finishes (ask (access kind n va) f) k m con l c m″ con″ l″
   unfolding replyTo finished
@@ -73,7 +73,7 @@ module _ {k : Cpu} {con : List ℕ} {n va : ℕ} {m l : List ℕ} {a : Answer} {
       record { same = rw (fault-told e q) at h .same ∙ sym (ap (ending k con) (rw e at (asked t f []))); good = h .good }
 
   -- a read that is granted: the tree goes on with the bytes there
-  pub finishes-read : Translates (k .space .paging) (k .space .pdir) (requested Read n va (k .system .user)) m l a m′ l′
+  pub finishes-read : Translates (k .space) (requested Read n va (k .system .user)) m l a m′ l′
       → {p v : ℕ} → a ≡ At p → v ≡ loadN n m′ p → Finishes (f (got v)) k m′ con l′ c m″ con″ l″
       → Finishes (ask (access Read n va) f) k m con l c m″ con″ l″
   unfolding replyTo isWrite finished
@@ -82,14 +82,14 @@ module _ {k : Cpu} {con : List ℕ} {n va : ℕ} {m l : List ℕ} {a : Answer} {
 -- ---- the two slots of a trap frame
 
 module _ {k : Cpu} {con : List ℕ} (x y : ℕ) {m l : List ℕ} {a : Answer} {m′ l′ : List ℕ} (f : Reply → Tree Final)
-    (t : Translates (k .space .paging) (k .space .pdir) (slot x) m l a m′ l′) {c : Cpu} where
+    (t : Translates (k .space) (slot x) m l a m′ l′) {c : Cpu} where
   -- the first is denied
   pub finishes-first : {z : Fault} {m″ con″ l″ : List ℕ} → a ≡ Denied z → Finishes (f (denied z)) k m′ con l′ c m″ con″ l″
       → Finishes (ask (slots x y) f) k m con l c m″ con″ l″
   unfolding finished
   finishes-first e h = record { same = h .same ∙ sym (ap (ending k con) (slots-first (k .space) (k .system .user) x y t f [] e)); good = h .good }
 
-  module _ {p : ℕ} (e : a ≡ At p) {b : Answer} {m″ l″ : List ℕ} (u : Translates (k .space .paging) (k .space .pdir) (slot y) m′ l′ b m″ l″) where
+  module _ {p : ℕ} (e : a ≡ At p) {b : Answer} {m″ l″ : List ℕ} (u : Translates (k .space) (slot y) m′ l′ b m″ l″) where
     -- the second is denied
     pub finishes-second : {z : Fault} {m‴ con‴ l‴ : List ℕ} → b ≡ Denied z → Finishes (f (denied z)) k m″ con l″ c m‴ con‴ l‴
         → Finishes (ask (slots x y) f) k m con l c m‴ con‴ l‴

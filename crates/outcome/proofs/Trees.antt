@@ -10,19 +10,19 @@ use Rattle.paging.specs.declared.Answer.the-variants.{At, Denied}
 use Rattle.paging.specs.declared.Fault.{Fault}
 use Rattle.paging.specs.declared.Space.{Space}
 use Rattle.paging.specs.Event.{Event}
-use Rattle.paging.specs.Translate.{Request, Translator, buffered, translateBy}
+use Rattle.paging.specs.Translate.{Request, Translator, buffered}
 use Rattle.buffer.specs.Held.{held}
 use Rattle.mmu.specs.State.{Translates}
 use Rattle.rules.specs.Tree.{access, slots, Reply, got, denied, Tree, ask, done, bind, Grant, grant, slot, requested, replyTo, answered, Ended, after, interpret}
 
 -- the events of a translation
 abbrev pub eventsOf : Space → Request → List ℕ → List ℕ → List Event
-eventsOf s q m l = translateBy (s .paging) (s .pdir) q m (held l) .events
+eventsOf s q m l = buffered .translate s q m (held l) .events
 
 -- ---- an access
 
 module _ {A : Type 0} {s : Space} {user : Bool} {kind : Access} {n va : ℕ} {m l : List ℕ} {a : Answer} {m′ l′ : List ℕ}
-    (t : Translates (s .paging) (s .pdir) (requested kind n va user) m l a m′ l′) (k : Reply → Tree A) (gs : List Grant) where
+    (t : Translates s (requested kind n va user) m l a m′ l′) (k : Reply → Tree A) (gs : List Grant) where
   -- the tree goes on with the code's answer, memory and buffer
   pub asked : interpret buffered s user (ask (access kind n va) k) m (held l) gs
       ≡ after (eventsOf s (requested kind n va user) m l) (interpret buffered s user (k (replyTo kind n m′ a .reply)) m′ (held l′) (replyTo kind n m′ a .grants ++ gs))
@@ -32,14 +32,14 @@ module _ {A : Type 0} {s : Space} {user : Bool} {kind : Access} {n va : ℕ} {m 
 -- ---- the two slots of a trap frame
 
 module _ {A : Type 0} (s : Space) (user : Bool) (x y : ℕ) {m l : List ℕ} {a : Answer} {m′ l′ : List ℕ}
-    (t : Translates (s .paging) (s .pdir) (slot x) m l a m′ l′) (k : Reply → Tree A) (gs : List Grant) where
+    (t : Translates s (slot x) m l a m′ l′) (k : Reply → Tree A) (gs : List Grant) where
   -- the first is denied
   pub slots-first : {f : Fault} → a ≡ Denied f → interpret buffered s user (ask (slots x y) k) m (held l) gs
       ≡ after (eventsOf s (slot x) m l) (interpret buffered s user (k (denied f)) m′ (held l′) gs)
   unfolding interpret answered
   slots-first e = rw (← ap (λ z. z .answer) (t .same), ← ap (λ z. z .mem) (t .same), ← ap (λ z. z .buffer) (t .same), e)
 
-  module _ {b : Answer} {m″ l″ : List ℕ} (u : Translates (s .paging) (s .pdir) (slot y) m′ l′ b m″ l″) {p : ℕ} (e : a ≡ At p) where
+  module _ {b : Answer} {m″ l″ : List ℕ} (u : Translates s (slot y) m′ l′ b m″ l″) {p : ℕ} (e : a ≡ At p) where
     -- the second is denied
     pub slots-second : {f : Fault} → b ≡ Denied f → interpret buffered s user (ask (slots x y) k) m (held l) gs
         ≡ after (eventsOf s (slot x) m l ++ eventsOf s (slot y) m′ l′) (interpret buffered s user (k (denied f)) m″ (held l″) gs)

@@ -26,31 +26,46 @@ use Rattle.outcome.specs.declared.Done.{Done}
 -- ---- the code's answers
 
 abbrev pub ok : Regs → Done
-ok r = record { a = r .a; b = r .b; c = r .c; sp = r .sp; pc = r .pc; end = end.Ok }
+ok r = record { regs = r; end = end.Ok }
 
-abbrev pub bad : End → Done
-bad e = record { a = 0; b = 0; c = 0; sp = 0; pc = 0; end = e }
+abbrev pub bad : Regs → End → Done
+bad r e = record { regs = r; end = e }
 
 abbrev pub faultOf : Answer → Fault
 faultOf (At p) = record { code = 0; address = 0 }
 faultOf (Denied f) = f
 
+-- an operand access that was denied
+abbrev pub refusedBy : Regs → Answer → Done
+refusedBy r a = bad r (end.Refused (faultOf a))
+
+-- the rules' answer that the code's stands for, its stores made: the registers count only where the instruction ended well
+abbrev pub outBy : Regs → End → Out
+outBy r end.Ok = fine r []
+outBy r (end.Unfetched f) = unfetched f
+outBy r (end.Trap code) = trap code
+outBy r (end.Refused f) = refused f
+outBy r (end.System op) = system op
+
+abbrev pub outOf : Done → Out
+outOf d = outBy (d .regs) (d .end)
+
 -- ---- an instruction
 
--- the code's answer for a rule's, with the stores made
-unfoldable pub madeBy : Out → List Grant → List ℕ → List Entry → Result Done
-madeBy (fine r vs) gs m es = result (ok r) (storeAll gs vs m) es
-madeBy (unfetched f) gs m es = result (bad (end.Unfetched f)) m es
-madeBy (trap code) gs m es = result (bad (end.Trap code)) m es
-madeBy (refused f) gs m es = result (bad (end.Refused f)) m es
-madeBy (system op) gs m es = result (bad (end.System op)) m es
+-- a rule's answer, with the stores made
+unfoldable pub madeBy : Out → List Grant → List ℕ → List Entry → Result Out
+madeBy (fine r vs) gs m es = result (fine r []) (storeAll gs vs m) es
+madeBy (unfetched f) gs m es = result (unfetched f) m es
+madeBy (trap code) gs m es = result (trap code) m es
+madeBy (refused f) gs m es = result (refused f) m es
+madeBy (system op) gs m es = result (system op) m es
 
-abbrev pub made : Ended (List Entry) Out → Result Done
+abbrev pub made : Ended (List Entry) Out → Result Out
 made e = madeBy (e .leaf) (e .grants) (e .mem) (e .buffer)
 
 -- with writes gs granted, from memory m and buffer l: the code answered d, with memory m′ and buffer l′, as the tree says
 pub record Executes (t : Tree Out) (s : Space) (user : Bool) (gs : List Grant) (m l : List ℕ) (d : Done) (m′ l′ : List ℕ) : Type 0 where
-  pub same : result d m′ (held l′) ≡ made (interpret buffered s user t m (held l) gs)
+  pub same : result (outOf d) m′ (held l′) ≡ made (interpret buffered s user t m (held l) gs)
   pub good : Good (length m′) (s .pdir) l′
 
 -- ---- a step, or the rest of one

@@ -1,6 +1,7 @@
 // Document 01, "One step", the order of faults: how an instruction ends, in code.
 ghost use mathlib.Core.Path.{_≡_};
-ghost use Rattle.outcome.specs.Contract.{ok, bad, faultOf};
+ghost use Rattle.rules.specs.Record.{withA, withB, withC, withSp, withPc};
+ghost use Rattle.outcome.specs.Contract.{ok, bad, faultOf, refusedBy};
 use decode::SysOp;
 use paging::Answer;
 use paging::Fault;
@@ -18,40 +19,39 @@ pub enum End {
     System(SysOp),
 }
 
-// The registers after an instruction, where it ended well. The step count is the caller's.
+// What an instruction leaves: how it ended, and where it ended well the registers.
 pub struct Done {
-    pub a: u32,
-    pub b: u32,
-    pub c: u32,
-    pub sp: u32,
-    pub pc: u32,
+    pub regs: Regs,
     pub end: End,
+}
+
+// The registers with all set that instructions set. A struct that is copied and then changed costs the inner loop 11 instructions a step.
+pub fn regs(r: Regs, a: u32, b: u32, c: u32, sp: u32, pc: u32) -> Regs
+    ensures { λ x. ⌜ x ≡ withA a (withB b (withC c (withSp sp (withPc pc r)))) ⌝ }
+{
+    Regs {
+        a,
+        b,
+        c,
+        sp,
+        pc,
+        count: r.count,
+    }
 }
 
 pub fn fine(r: Regs) -> Done
     ensures { λ d. ⌜ d ≡ ok r ⌝ }
 {
     Done {
-        a: r.a,
-        b: r.b,
-        c: r.c,
-        sp: r.sp,
-        pc: r.pc,
+        regs: r,
         end: End::Ok,
     }
 }
 
-pub fn ended(e: End) -> Done
-    ensures { λ d. ⌜ d ≡ bad e ⌝ }
+pub fn ended(r: Regs, e: End) -> Done
+    ensures { λ d. ⌜ d ≡ bad r e ⌝ }
 {
-    Done {
-        a: 0,
-        b: 0,
-        c: 0,
-        sp: 0,
-        pc: 0,
-        end: e,
-    }
+    Done { regs: r, end: e }
 }
 
 // The fault of a denied access.
@@ -64,5 +64,19 @@ pub fn fault_of(a: Answer) -> Fault
             address: 0,
         },
         Answer::Denied(f) => f,
+    }
+}
+
+// The end of an instruction whose operand access was denied. The fault is put together anew: copied whole, it keeps every instruction's end in memory.
+pub fn refused(r: Regs, a: Answer) -> Done
+    ensures { λ d. ⌜ d ≡ refusedBy r a ⌝ }
+{
+    let f = fault_of(a);
+    Done {
+        regs: r,
+        end: End::Refused(Fault {
+            code: f.code,
+            address: f.address,
+        }),
     }
 }

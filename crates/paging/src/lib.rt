@@ -45,3 +45,38 @@ pub enum Answer {
     At(usize),
     Denied(Fault),
 }
+
+// ---- document 01, "Traps": the trap codes, in the source's order
+
+// Bad physical address.
+pub const FMEM: u32 = 0;
+
+// Timer interrupt.
+pub const FTIMER: u32 = 1;
+
+// Keyboard interrupt.
+pub const FKEYBD: u32 = 2;
+
+// Privileged instruction.
+pub const FPRIV: u32 = 3;
+
+// Illegal instruction.
+pub const FINST: u32 = 4;
+
+// Software trap.
+pub const FSYS: u32 = 5;
+
+// Arithmetic trap.
+pub const FARITH: u32 = 6;
+
+// Page fault on opcode fetch.
+pub const FIPAGE: u32 = 7;
+
+// Page fault on write.
+pub const FWPAGE: u32 = 8;
+
+// Page fault on read.
+pub const FRPAGE: u32 = 9;
+
+// User mode exception: the mark added to a code.
+pub const USER: u32 = 16;

@@ -11,6 +11,7 @@ use Rattle.word.specs.Word.{cut}
 use Rattle.paging.specs.TrapCode.{FMEM}
 use Rattle.buffer.specs.Held.{held, Buffer}
 use Rattle.mmu.specs.Good.{Good}
+use Rattle.mmu.specs.State.{spaceOf}
 use Rattle.mmu.proofs.Laws.{good-emptied}
 use Rattle.rules.specs.declared.Cpu.{Cpu}
 use Rattle.rules.specs.Record.{withSpace}
@@ -25,7 +26,7 @@ use Rattle.system.proofs.Choices.{finishes-then, finishes-else, at-next
 module _ (c : Cpu) {m con l : List ℕ} where
   -- "PDIR: .. low twelve bits drop"
   pub pdir-set : {n x : Cpu} {l′ : List ℕ} → held l′ ≡ [] → Buffer l′ → Good (length m) (c .space .pdir) l → c .regs .a < length m → n ≡ movedOn c
-      → x ≡ withSpace (record { pdir = cut 4096 (c .regs .a); paging = c .space .paging }) n
+      → x ≡ withSpace (spaceOf (c .space .paging) (cut 4096 (c .regs .a))) n
       → Finishes (pdirTree (length m) c (movedOn c)) c m con l x m con l′
   unfolding pdirTree spaceAfter
   pdir-set z b g h e f =
@@ -42,7 +43,7 @@ module _ (c : Cpu) {m con l : List ℕ} where
 
 -- "SPAG: paging = (a ≠ 0)"
 pub spag-set : (n : Cpu) {m con l : List ℕ} {x : Cpu} {l′ : List ℕ} → held l′ ≡ [] → Buffer l′ → Good (length m) (n .space .pdir) l
-    → x ≡ withSpace (record { pdir = n .space .pdir; paging = not (eqb (n .regs .a) 0) }) n
+    → x ≡ withSpace (spaceOf (not (eqb (n .regs .a) 0)) (n .space .pdir)) n
     → Finishes (spagTree n) n m con l x m con l′
 unfolding spaceAfter
 spag-set n z b g f = finishes-turned f z (good-emptied g (g .directory .aligned) (g .directory .below) z b)

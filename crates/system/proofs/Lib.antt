@@ -3,4 +3,3 @@ pub mod Returning
 pub mod AddressSpace
 pub mod Rest
 pub mod OlderGrants
-pub mod SettleLaw

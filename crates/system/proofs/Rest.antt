@@ -1,5 +1,4 @@
--- Document 01, "Opcodes" and "One step": BOUT, TIME, a privileged instruction in user mode, and the rest of a step, by how its instruction ended.
--- Assumes nothing.
+-- Document 01, "Opcodes": BOUT, TIME, and a privileged instruction in user mode. Assumes nothing.
 use Prim.Native.Nat.{ℕ, _+_, _%_, _≤_, _<_}
 use mathlib.Core.Bool.{Bool, true, false}
 use mathlib.Core.List.{List}
@@ -10,21 +9,16 @@ use borrow.Author.Tests.{lt-ltb, le-ltb}
 use Rattle.word.specs.Word.{if_then_else_}
 use Rattle.decode.specs.declared.SysOp.{SysOp}
 use Rattle.decode.specs.declared.SysOp.the-variants.{Time}
-use Rattle.paging.specs.declared.Fault.{Fault}
 use Rattle.paging.specs.TrapCode.{FPRIV}
 use Rattle.mmu.specs.Good.{Good}
 use Rattle.rules.specs.declared.Cpu.{Cpu}
 use Rattle.rules.specs.Record.{putA, withWritten, withClock, withTimeout}
-use Rattle.rules.specs.Trap.{ended, nextPc, trapTree, faultTree}
+use Rattle.rules.specs.Trap.{ended, nextPc, trapTree}
 use Rattle.rules.specs.System.{boutTree, privilegedTree, systemTree}
-use Rattle.rules.specs.Step.{spaceAfter, settleTree}
-use Rattle.outcome.specs.declared.Done.{Done}
-use Rattle.outcome.specs.declared.End.{End}
-use Rattle.outcome.specs.declared.End.the-variants.{Trap, Refused}
+use Rattle.rules.specs.Step.{spaceAfter}
 use Rattle.outcome.specs.Contract.{Finishes}
 use Rattle.outcome.proofs.Steps.{finishes-ended, finishes-printed}
 use Rattle.system.specs.Moved.{movedOn}
-use Rattle.system.specs.Settle.{outBy, outOf}
 use Rattle.system.proofs.Choices.{finishes-then, finishes-else, at-next}
 
 -- ---- "BOUT: b's low byte appended, a = 1; console full, a = 0xFFFFFFFF"
@@ -73,22 +67,3 @@ module _ (size room : ℕ) (op : SysOp) (c : Cpu) {m con l : List ℕ} {x : Cpu}
       → Finishes (systemTree size room op c) c m con l x m′ con′ l′
   unfolding systemTree
   system-allowed e h = finishes-else _ _ e h
-
--- ---- the rest of a step
-
-module _ (size room : ℕ) (c : Cpu) (d : Done) {m con l : List ℕ} {x : Cpu} {m′ con′ l′ : List ℕ} where
-  -- by how the instruction ended
-  pub settle-at : {e : End} → d .end ≡ e → Finishes (settleTree size room c (outBy c d e)) c m con l x m′ con′ l′
-      → Finishes (settleTree size room c (outOf c d)) c m con l x m′ con′ l′
-  settle-at q h = subst (λ z. Finishes (settleTree size room c (outBy c d z)) c m con l x m′ con′ l′) (sym q) h
-
-  -- "The pc stored is the next instruction's for faults in execution and TRAP"
-  pub settle-trap : {code n : ℕ} → d .end ≡ Trap code → n ≡ nextPc c → Finishes (trapTree c code n) c m con l x m′ con′ l′
-      → Finishes (settleTree size room c (outOf c d)) c m con l x m′ con′ l′
-  unfolding settleTree
-  settle-trap {code} q p h = settle-at q (at-next (trapTree c code) c p h)
-
-  pub settle-refused : {f : Fault} {n : ℕ} → d .end ≡ Refused f → n ≡ nextPc c → Finishes (faultTree c f n) c m con l x m′ con′ l′
-      → Finishes (settleTree size room c (outOf c d)) c m con l x m′ con′ l′
-  unfolding settleTree
-  settle-refused {f} q p h = settle-at q (at-next (faultTree c f) c p h)

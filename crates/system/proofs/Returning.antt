@@ -36,7 +36,7 @@ returned-keeps c code pc = go (bit USER code)
     go false = unfold spaceAfter in refl
 
 module _ (c : Cpu) {con m l : List ℕ} {a : Answer} {m′ l′ : List ℕ}
-    (t : Translates (c .space .paging) (c .space .pdir) (requested Read 4 (c .regs .sp) (c .system .user)) m l a m′ l′) where
+    (t : Translates (c .space) (requested Read 4 (c .regs .sp) (c .system .user)) m l a m′ l′) where
   -- the code cannot be read
   pub rti-first : {z y : Fault} {n : ℕ} {x : Cpu} {m″ l″ : List ℕ} → a ≡ Denied z → y ≡ faultOf a → n ≡ nextPc c
       → Finishes (faultTree c y n) c m′ con l′ x m″ con l″ → Finishes (rtiTree c) c m con l x m″ con l″
@@ -44,7 +44,7 @@ module _ (c : Cpu) {con m l : List ℕ} {a : Answer} {m′ l′ : List ℕ}
   rti-first {y = y} e q p h = finishes-denied _ t e q (at-next (faultTree c y) c p h)
 
   module _ {second v code : ℕ} (s : second ≡ sum (c .regs .sp) 8) (e : a ≡ At v) (i : code ≡ loadN 4 m′ v) {b : Answer} {m″ l″ : List ℕ}
-      (u : Translates (c .space .paging) (c .space .pdir) (requested Read 4 second (c .system .user)) m′ l′ b m″ l″) where
+      (u : Translates (c .space) (requested Read 4 second (c .system .user)) m′ l′ b m″ l″) where
     -- the code is read
     go-on : {x : Cpu} {m‴ l‴ : List ℕ} → Finishes (ask (access Read 4 second) (orFault c (λ pc. ended (returned c code pc)))) c m′ con l′ x m‴ con l‴
         → Finishes (rtiTree c) c m con l x m‴ con l‴

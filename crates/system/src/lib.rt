@@ -1,29 +1,20 @@
-// Document 01, "Opcodes", the privileged instructions, and "One step": the rest of a step after its instruction, over the whole record.
+// Document 01, "Opcodes": the privileged instructions, over the whole record.
 ghost use mathlib.Core.Path.{_≡_};
 ghost use mathlib.Core.List.{List};
 ghost use Prim.Native.Nat.{ℕ};
 ghost use lib.ListN.{length};
 ghost use Rattle.mmu.specs.Good.{Good};
-ghost use Rattle.rules.specs.Record.{withRegs};
 ghost use Rattle.rules.specs.System.{boutTree, privilegedTree, systemTree};
-ghost use Rattle.rules.specs.Step.{settleTree};
 ghost use Rattle.outcome.specs.Contract.{Finishes};
 ghost use Rattle.system.specs.Moved.{movedOn};
-ghost use Rattle.system.specs.Settle.{outOf, regsAfter};
 use decode::SysOp;
-use outcome::Done;
-use outcome::End;
 use rules::Cpu;
-use rules::Regs;
 use rules::Stop;
 
 mod pdir;
 mod plain;
 mod rti;
 mod spag;
-
-// The trap code of a privileged instruction in user mode.
-const FPRIV: u32 = 3;
 
 // The record with pc moved on.
 fn moved(c: Cpu) -> Cpu
@@ -83,7 +74,7 @@ fn privileged(
 }
 
 // A privileged instruction; c is the record before the fetch.
-fn system(
+pub fn system(
     c: Cpu,
     op: SysOp,
     mem: &mut [u8],
@@ -95,47 +86,7 @@ fn system(
     ensures { λ x. ⌜ Finishes (systemTree (length (now (mem .entry))) (length (now (console .entry))) op c) c (now (mem .entry)) (now (console .entry)) (now (tlb .entry)) x (now (mem .exit)) (now (console .exit)) (now (tlb .exit)) ⌝ }
 {
     if c.system.user {
-        return trap::trap(c, FPRIV, trap::next_pc(c), mem, tlb, hint);
+        return trap::trap(c, paging::FPRIV, trap::next_pc(c), mem, tlb, hint);
     }
     privileged(c, op, mem, console, tlb, hint)
-}
-
-// The record with the registers that an instruction left.
-fn with_done(c: Cpu, d: Done) -> Cpu
-    ensures { λ x. ⌜ x ≡ withRegs (regsAfter c d) c ⌝ }
-{
-    let count = c.regs.count;
-    let regs = Regs {
-        a: d.a,
-        b: d.b,
-        c: d.c,
-        sp: d.sp,
-        pc: d.pc,
-        count,
-    };
-    let mut n = c;
-    n.regs = regs;
-    n
-}
-
-// The rest of a step after its instruction: c is the record before the fetch.
-pub fn settle(
-    c: Cpu,
-    d: Done,
-    mem: &mut [u8],
-    console: &mut [u8],
-    tlb: &mut [u64],
-    hint: &mut [u8; 256],
-) -> Cpu
-    requires { ⌜ Good (length (now mem)) (c .space .pdir) (now tlb) ⌝ }
-    ensures { λ x. ⌜ Finishes (settleTree (length (now (mem .entry))) (length (now (console .entry))) c (outOf c d)) c (now (mem .entry)) (now (console .entry)) (now (tlb .entry)) x (now (mem .exit)) (now (console .exit)) (now (tlb .exit)) ⌝ }
-{
-    let e = d.end;
-    match e {
-        End::Ok => with_done(c, d),
-        End::Unfetched(f) => trap::fault(c, f, c.regs.pc, mem, tlb, hint),
-        End::Trap(code) => trap::trap(c, code, trap::next_pc(c), mem, tlb, hint),
-        End::Refused(f) => trap::fault(c, f, trap::next_pc(c), mem, tlb, hint),
-        End::System(op) => system(c, op, mem, console, tlb, hint),
-    }
 }

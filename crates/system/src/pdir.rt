@@ -8,7 +8,6 @@ ghost use Rattle.rules.specs.System.{pdirTree};
 ghost use Rattle.outcome.specs.Contract.{Finishes};
 ghost use Rattle.system.specs.Moved.{movedOn};
 use paging::Fault;
-use paging::Space;
 use rules::Cpu;
 
 // c is the record before the fetch, and n the same with pc moved on.
@@ -18,13 +17,13 @@ pub fn pdir(c: Cpu, n: Cpu, mem: &mut [u8], tlb: &mut [u64], hint: &mut [u8; 256
 {
     let a = c.regs.a;
     if (a as usize) < mem.len() {
-        let paging = c.space.paging;
-        let pdir = a / 4096 * 4096;
+        let mut space = c.space;
+        space.pdir = a / 4096 * 4096;
         buffer::empty(tlb);
-        return crate::plain::set_space(n, Space { pdir, paging });
+        return crate::plain::set_space(n, space);
     }
     let f = Fault {
-        code: walk::FMEM,
+        code: paging::FMEM,
         address: a,
     };
     trap::fault(c, f, trap::next_pc(c), mem, tlb, hint)

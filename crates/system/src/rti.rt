@@ -3,10 +3,7 @@ ghost use mathlib.Core.Path.{_≡_};
 ghost use mathlib.Core.List.{List};
 ghost use Prim.Native.Nat.{ℕ};
 ghost use lib.ListN.{length};
-ghost use Rattle.paging.specs.declared.Access.the-variants as access;
 ghost use Rattle.mmu.specs.Good.{Good};
-ghost use Rattle.mmu.specs.State.{Translates};
-ghost use Rattle.rules.specs.Tree.{requested};
 ghost use Rattle.rules.specs.System.{returned as returnedOf, rtiTree};
 ghost use Rattle.outcome.specs.Contract.{Finishes};
 use memory::Size;
@@ -34,36 +31,21 @@ fn returned(c: Cpu, code: u32, pc: u32) -> Cpu
     n
 }
 
-// A word of the frame, translated for reading in the record's mode.
-fn slot(c: Cpu, addr: u32, mem: &mut [u8], tlb: &mut [u64], hint: &mut [u8; 256]) -> Answer
-    requires { ⌜ Good (length (now mem)) (c .space .pdir) (now tlb) ⌝ }
-    ensures { λ a. ⌜ Translates (c .space .paging) (c .space .pdir) (requested access.Read 4 addr (c .system .user)) (now (mem .entry)) (now (tlb .entry)) a (now (mem .exit)) (now (tlb .exit)) ⌝ }
-{
-    mmu::translate(
-        mem,
-        tlb,
-        hint,
-        c.space.paging,
-        c.space.pdir,
-        addr,
-        Size::Word,
-        Access::Read,
-        c.system.user,
-    )
-}
-
+// Both words of the frame are read in the record's mode.
 pub fn rti(c: Cpu, mem: &mut [u8], tlb: &mut [u64], hint: &mut [u8; 256]) -> Cpu
     requires { ⌜ Good (length (now mem)) (c .space .pdir) (now tlb) ⌝ }
     ensures { λ x. ⌜ ((con : List ℕ) → Finishes (rtiTree c) c (now (mem .entry)) con (now (tlb .entry)) x (now (mem .exit)) con (now (tlb .exit))) ⌝ }
 {
+    let s = c.space;
+    let user = c.system.user;
     let sp = c.regs.sp;
     let second = word::sum(sp, 8);
-    let p = slot(c, sp, mem, tlb, hint);
+    let p = mmu::translate(mem, tlb, hint, s, sp, Size::Word, Access::Read, user);
     let Answer::At(x) = p else {
         return trap::fault(c, outcome::fault_of(p), trap::next_pc(c), mem, tlb, hint);
     };
     let code = memory::load4(mem, x);
-    let q = slot(c, second, mem, tlb, hint);
+    let q = mmu::translate(mem, tlb, hint, s, second, Size::Word, Access::Read, user);
     let Answer::At(y) = q else {
         return trap::fault(c, outcome::fault_of(q), trap::next_pc(c), mem, tlb, hint);
     };

@@ -6,7 +6,6 @@ ghost use Rattle.buffer.specs.Held.{Buffer};
 ghost use Rattle.mmu.specs.Good.{Good};
 ghost use Rattle.rules.specs.System.{spagTree};
 ghost use Rattle.outcome.specs.Contract.{Finishes};
-use paging::Space;
 use rules::Cpu;
 
 // n has pc moved on; memory and console stay.
@@ -14,8 +13,8 @@ pub fn spag(n: Cpu, tlb: &mut [u64]) -> Cpu
     requires { ⌜ Buffer (now tlb) ⌝ }
     ensures { λ x. ⌜ ((m con : List ℕ) → Good (length m) (n .space .pdir) (now (tlb .entry)) → Finishes (spagTree n) n m con (now (tlb .entry)) x m con (now (tlb .exit))) ⌝ }
 {
-    let pdir = n.space.pdir;
-    let paging = n.regs.a != 0;
+    let mut space = n.space;
+    space.paging = n.regs.a != 0;
     buffer::empty(tlb);
-    crate::plain::set_space(n, Space { pdir, paging })
+    crate::plain::set_space(n, space)
 }

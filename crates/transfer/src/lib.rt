@@ -14,7 +14,6 @@ use decode::Format;
 use decode::Reg;
 use memory::Size;
 use outcome::Done;
-use outcome::End;
 use paging::Access;
 use paging::Answer;
 use paging::Space;
@@ -67,19 +66,9 @@ pub fn load(
 {
     let s = size(f);
     let va = word::sum(registers::base(r, b), imm);
-    let p = mmu::translate(
-        mem,
-        tlb,
-        hint,
-        space.paging,
-        space.pdir,
-        va,
-        s,
-        Access::Read,
-        user,
-    );
+    let p = mmu::translate(mem, tlb, hint, space, va, s, Access::Read, user);
     let Answer::At(q) = p else {
-        return outcome::ended(End::Refused(outcome::fault_of(p)));
+        return outcome::refused(r, p);
     };
     let v = value(mem, q, f);
     outcome::fine(registers::put(r, d, v))
@@ -101,19 +90,9 @@ pub fn store(
     ensures { λ x. ⌜ Executes (storeTree b s imm r) space user [] (now (mem .entry)) (now (tlb .entry)) x (now (mem .exit)) (now (tlb .exit)) ⌝ }
 {
     let va = word::sum(registers::base(r, b), imm);
-    let p = mmu::translate(
-        mem,
-        tlb,
-        hint,
-        space.paging,
-        space.pdir,
-        va,
-        s,
-        Access::Write,
-        user,
-    );
+    let p = mmu::translate(mem, tlb, hint, space, va, s, Access::Write, user);
     let Answer::At(q) = p else {
-        return outcome::ended(End::Refused(outcome::fault_of(p)));
+        return outcome::refused(r, p);
     };
     memory::store(mem, q, s, r.a);
     outcome::fine(r)
@@ -136,29 +115,12 @@ pub fn push(
     ensures { λ x. ⌜ Executes (pushTree v (withPc pc r) r) space user [] (now (mem .entry)) (now (tlb .entry)) x (now (mem .exit)) (now (tlb .exit)) ⌝ }
 {
     let top = word::difference(r.sp, 8);
-    let p = mmu::translate(
-        mem,
-        tlb,
-        hint,
-        space.paging,
-        space.pdir,
-        top,
-        Size::Word,
-        Access::Write,
-        user,
-    );
+    let p = mmu::translate(mem, tlb, hint, space, top, Size::Word, Access::Write, user);
     let Answer::At(q) = p else {
-        return outcome::ended(End::Refused(outcome::fault_of(p)));
+        return outcome::refused(r, p);
     };
-    memory::store4(mem, q, v);
-    outcome::fine(Regs {
-        a: r.a,
-        b: r.b,
-        c: r.c,
-        sp: top / 8 * 8,
-        pc,
-        count: r.count,
-    })
+    memory::store(mem, q, Size::Word, v);
+    outcome::fine(outcome::regs(r, r.a, r.b, r.c, top / 8 * 8, pc))
 }
 
 // The word at sp goes to a register, and sp rises.
@@ -174,19 +136,9 @@ pub fn pop(
     requires { ⌜ Good (length (now mem)) (space .pdir) (now tlb) ⌝ }
     ensures { λ x. ⌜ Executes (popTree d r) space user [] (now (mem .entry)) (now (tlb .entry)) x (now (mem .exit)) (now (tlb .exit)) ⌝ }
 {
-    let p = mmu::translate(
-        mem,
-        tlb,
-        hint,
-        space.paging,
-        space.pdir,
-        r.sp,
-        Size::Word,
-        Access::Read,
-        user,
-    );
+    let p = mmu::translate(mem, tlb, hint, space, r.sp, Size::Word, Access::Read, user);
     let Answer::At(q) = p else {
-        return outcome::ended(End::Refused(outcome::fault_of(p)));
+        return outcome::refused(r, p);
     };
     let v = memory::load4(mem, q);
     let mut n = registers::put(r, d, v);
@@ -207,28 +159,11 @@ pub fn leave(
     requires { ⌜ Good (length (now mem)) (space .pdir) (now tlb) ⌝ }
     ensures { λ x. ⌜ Executes (leaveTree imm r) space user [] (now (mem .entry)) (now (tlb .entry)) x (now (mem .exit)) (now (tlb .exit)) ⌝ }
 {
-    let p = mmu::translate(
-        mem,
-        tlb,
-        hint,
-        space.paging,
-        space.pdir,
-        r.sp,
-        Size::Word,
-        Access::Read,
-        user,
-    );
+    let p = mmu::translate(mem, tlb, hint, space, r.sp, Size::Word, Access::Read, user);
     let Answer::At(q) = p else {
-        return outcome::ended(End::Refused(outcome::fault_of(p)));
+        return outcome::refused(r, p);
     };
     let v = memory::load4(mem, q);
     let s = word::sum(r.sp, word::sum(imm, 8));
-    outcome::fine(Regs {
-        a: r.a,
-        b: r.b,
-        c: r.c,
-        sp: s / 8 * 8,
-        pc: v / 4 * 4,
-        count: r.count,
-    })
+    outcome::fine(outcome::regs(r, r.a, r.b, r.c, s / 8 * 8, v / 4 * 4))
 }

@@ -32,14 +32,14 @@ module _ (c : Cpu) (code pc : ℕ) {top first second : ℕ} (h : top ≡ kernelS
       let k = subst (λ u. Finishes (ask (slots (difference top 8) u) (framed c code pc)) c m con l x m′ con′ l′) q g in
       subst (λ u. Finishes (ask (slots (difference u 8) (difference u 16)) (framed c code pc)) c m con l x m′ con′ l′) h k
 
-  module _ {con m l : List ℕ} {a : Answer} {m′ l′ : List ℕ} (t : Translates (c .space .paging) (c .space .pdir) (slot first) m l a m′ l′) where
+  module _ {con m l : List ℕ} {a : Answer} {m′ l′ : List ℕ} (t : Translates (c .space) (slot first) m l a m′ l′) where
     -- the first slot is refused
     pub deliver-first : {z : Fault} {x : Cpu} → a ≡ Denied z → x ≡ withStop NoFrame c → Finishes (deliverTree c code pc) c m con l x m′ con l′
     unfolding spaceAfter
     deliver-first e f = at-slots (finishes-first first second (framed c code pc) t e (finishes-ended f (t .good)))
 
     module _ {v : ℕ} (e : a ≡ At v) {b : Answer} {m″ l″ : List ℕ}
-        (u : Translates (c .space .paging) (c .space .pdir) (slot second) m′ l′ b m″ l″) where
+        (u : Translates (c .space) (slot second) m′ l′ b m″ l″) where
       -- the second slot is refused
       pub deliver-second : {z : Fault} {x : Cpu} → b ≡ Denied z → x ≡ withStop NoFrame c → Finishes (deliverTree c code pc) c m con l x m″ con l″
       unfolding spaceAfter

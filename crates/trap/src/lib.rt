@@ -4,10 +4,8 @@ ghost use mathlib.Core.List.{List};
 ghost use Prim.Native.Nat.{ℕ};
 ghost use lib.ListN.{length};
 ghost use Rattle.mmu.specs.Good.{Good};
-ghost use Rattle.mmu.specs.State.{Translates};
 ghost use Rattle.rules.specs.declared.Stop.the-variants.{Masked, NoFrame};
 ghost use Rattle.rules.specs.Record.{withStop, withVadr};
-ghost use Rattle.rules.specs.Tree.{slot as slotAt};
 ghost use Rattle.rules.specs.Trap.{kernelSp, codeOf, savedUsp, entered as enteredOf, nextPc, deliverTree, trapTree, faultTree};
 ghost use Rattle.outcome.specs.Contract.{Finishes};
 use memory::Size;
@@ -71,14 +69,11 @@ fn saved_usp(c: Cpu) -> u32
     c.system.usp
 }
 
-// The mark of a trap from user mode.
-const USER: u32 = 16;
-
 fn trap_code(c: Cpu, code: u32) -> u32
     ensures { λ x. ⌜ x ≡ codeOf c code ⌝ }
 {
     if c.system.user {
-        return word::sum(code, USER);
+        return word::sum(code, paging::USER);
     }
     code
 }
@@ -115,25 +110,7 @@ fn no_frame(c: Cpu) -> Cpu
 
 // ---- traps
 
-// A slot of the frame, translated for kernel writing.
-fn slot(c: Cpu, addr: u32, mem: &mut [u8], tlb: &mut [u64], hint: &mut [u8; 256]) -> Answer
-    requires { ⌜ Good (length (now mem)) (c .space .pdir) (now tlb) ⌝ }
-    ensures { λ a. ⌜ Translates (c .space .paging) (c .space .pdir) (slotAt addr) (now (mem .entry)) (now (tlb .entry)) a (now (mem .exit)) (now (tlb .exit)) ⌝ }
-{
-    mmu::translate(
-        mem,
-        tlb,
-        hint,
-        c.space.paging,
-        c.space.pdir,
-        addr,
-        Size::Word,
-        Access::Write,
-        false,
-    )
-}
-
-// Both slots of the frame are translated before either is stored.
+// Both slots of the frame are translated for kernel writing before either is stored.
 pub fn deliver(
     c: Cpu,
     code: u32,
@@ -145,19 +122,20 @@ pub fn deliver(
     requires { ⌜ Good (length (now mem)) (c .space .pdir) (now tlb) ⌝ }
     ensures { λ x. ⌜ ((con : List ℕ) → Finishes (deliverTree c code pc) c (now (mem .entry)) con (now (tlb .entry)) x (now (mem .exit)) con (now (tlb .exit))) ⌝ }
 {
+    let s = c.space;
     let top = kernel_sp(c);
     let first = word::difference(top, 8);
     let second = word::difference(top, 16);
-    let p = slot(c, first, mem, tlb, hint);
+    let p = mmu::translate(mem, tlb, hint, s, first, Size::Word, Access::Write, false);
     let Answer::At(x) = p else {
         return no_frame(c);
     };
-    let q = slot(c, second, mem, tlb, hint);
+    let q = mmu::translate(mem, tlb, hint, s, second, Size::Word, Access::Write, false);
     let Answer::At(y) = q else {
         return no_frame(c);
     };
-    memory::store4(mem, x, pc);
-    memory::store4(mem, y, trap_code(c, code));
+    memory::store(mem, x, Size::Word, pc);
+    memory::store(mem, y, Size::Word, trap_code(c, code));
     entered(c)
 }
 

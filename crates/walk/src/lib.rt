@@ -9,9 +9,6 @@ ghost use Rattle.walk.specs.Directory.{Directory};
 ghost use Rattle.walk.specs.Found.{isMark, walked, walkedBy, FrameWalk, TableWalk};
 use paging::Access;
 
-// Bad physical address.
-pub const FMEM: u32 = 0;
-
 // What a page table walk finds.
 pub enum PageWalk {
     // The frame's number, with the user and the write right.
@@ -25,9 +22,9 @@ fn page_fault(kind: Access) -> u32
     ensures { λ r. ⌜ r ≡ pageFault kind ⌝ }
 {
     match kind {
-        Access::Fetch => 7,
-        Access::Read => 9,
-        Access::Write => 8,
+        Access::Fetch => paging::FIPAGE,
+        Access::Read => paging::FRPAGE,
+        Access::Write => paging::FWPAGE,
     }
 }
 
@@ -89,7 +86,7 @@ fn walk_frame(mem: &[u8], at: usize, dir: u32, table: u32) -> PageWalk
     ensures { λ r. ⌜ FrameWalk dir table at (now (mem .entry)) r ⌝ }
 {
     if (table / 4096 * 4096) as usize >= mem.len() {
-        return PageWalk::Faulted(FMEM);
+        return PageWalk::Faulted(paging::FMEM);
     }
     let marked = memory::load4(mem, at);
     PageWalk::Mapped {
@@ -127,7 +124,7 @@ pub fn walk(mem: &mut [u8], pdir: u32, page: u32, kind: Access, user: bool) -> P
     mark(mem, dir_at, 32);
     let table = dir / 4096 * 4096;
     if table as usize >= mem.len() {
-        return PageWalk::Faulted(FMEM);
+        return PageWalk::Faulted(paging::FMEM);
     }
     walk_table(mem, (table + 4 * (page % 1024)) as usize, dir, kind, user)
 }

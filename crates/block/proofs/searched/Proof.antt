@@ -5,13 +5,16 @@ use Rattle.block.proofs.searched.Statement.{statement}
 use Rattle.block.proofs.searched.Tie as tie
 
 returns : tie.Need-returns
-returns c = rw (eq-eqb _ _ (c .if1 .taken))
-
-again-requires : tie.Need-again-requires
-again-requires c κs = search needs
+returns c = rw (eq-eqb _ _ (c .before .if1 .taken), c .regs .ensures)
 
 returns-2 : tie.Need-returns-2
 returns-2 c = rw (ne-eqb _ _ (c .before .if1 .left)) (c .again .ensures)
 
 pub searched-spec : {M : Type 1} → statement M
-searched-spec = tie.close (tie.spec returns again-requires returns-2)
+searched-spec =
+    tie.close
+    (tie.spec
+    (λ c κs. search needs)
+    returns
+    (λ c κs. search needs)
+    returns-2)

@@ -11,9 +11,9 @@ use Rattle.execute.proofs.compute_stack.Tie as tie
 returns : tie.Need-returns
 unfolding aluFrom
 returns c =
-    let sum = c .before .before .before .before .before .before .before .before .before .before .before .before .sum in
-    let translate = c .before .before .before .before .before .before .before .before .translate in
-    rw (← sum .ensures) (executes-denied (translate .ensures) (c .before .before .enum-told .given .1) (c .before .fault-of .ensures) (c .ended .ensures))
+    let sum = c .before .before .before .before .before .before .before .before .before .before .before .sum in
+    let translate = c .before .before .before .before .before .before .before .translate in
+    rw (← sum .ensures) (executes-denied (translate .ensures) (c .before .enum-told .given .1) (c .refused .ensures))
 
 load4-requires : tie.Need-load4-requires
 load4-requires c κs =
@@ -37,7 +37,6 @@ compute-stack-spec =
     (λ c κs. search needs)
     (λ c. search needs)
     (λ c. search needs)
-    (λ c κs. search needs)
     (λ c κs. search needs)
     (λ c. search needs)
     (λ c. search needs)

@@ -1,4 +1,5 @@
 -- `execute::instruction` meets its contract. Assumes nothing.
+use native.Mathlib.Omega.{arith}
 use borrow.Author.Needs.{needs}
 use Rattle.mmu.proofs.Laws.{at-within}
 use Rattle.memory.specs.declared.Size.the-variants.{Word}
@@ -17,15 +18,27 @@ load4-requires c κs =
     let translate = c .before .before .before .before .before .before .before .before .translate in
     at-within Word (pre .0) (translate .ensures) (c .before .before .p .given .1)
 
+same-length-3 : tie.Need-same-length-3
+same-length-3 c =
+    let translate = c .before .before .before .before .before .before .before .before .before .before .before .before .before .before .before .before .before .before .before .before .before .translate in
+    let execute = c .before .before .before .before .execute in
+    omega (arith, translate .kept .0, execute .kept .1 .1 .1 .1 .0)
+
+same-length-4 : tie.Need-same-length-4
+same-length-4 c =
+    let translate = c .before .before .before .before .before .before .before .before .before .before .before .before .before .before .before .before .before .before .before .before .before .translate in
+    let execute = c .before .before .before .before .execute in
+    omega (arith, translate .kept .1 .0, execute .kept .1 .1 .1 .1 .1 .0)
+
 returns-2 : tie.Need-returns-2
 returns-2 c =
-    let translate = c .before .before .before .before .before .before .before .before .before .before .before .before .before .before .before .before .before .before .before .before .translate in
-    let p = c .before .before .before .before .before .before .before .before .before .before .before .before .before .before .p in
-    let load4 = c .before .before .before .before .before .before .before .before .before .before .before .load4 in
-    let decode = c .before .before .before .before .before .before .before .before .before .before .decode in
-    let sum = c .before .before .before .before .before .before .before .before .before .sum in
+    let translate = c .before .before .before .before .before .before .before .before .before .before .before .before .before .before .before .before .before .before .before .before .before .translate in
+    let p = c .before .before .before .before .before .before .before .before .before .before .before .before .before .before .before .p in
+    let load4 = c .before .before .before .before .before .before .before .before .before .before .before .before .load4 in
+    let decode = c .before .before .before .before .before .before .before .before .before .before .before .decode in
+    let sum = c .before .before .before .before .before .before .before .before .before .before .sum in
     let execute = c .before .before .before .before .execute in
-    executes-fetched _ (translate .ensures) (p .given .1) (load4 .ensures) (decode .ensures) (rw (← sum .ensures) (execute .ensures))
+    executes-fetched _ (translate .ensures) (p .given .1) (load4 .ensures) (decode .ensures) (rw (← sum .ensures) (rw (c .before .before .before .before .before .before .before .before .before .regs .ensures) at (execute .ensures)))
 
 pub instruction-spec : {M : Type 1} → statement M
 instruction-spec =
@@ -42,8 +55,9 @@ instruction-spec =
     load4-requires
     (λ c κs. search needs)
     (λ c κs. search needs)
-    (λ c. search needs)
     (λ c κs. search needs)
     (λ c. search needs)
-    (λ c. search needs)
+    (λ c κs. search needs)
+    same-length-3
+    same-length-4
     returns-2)

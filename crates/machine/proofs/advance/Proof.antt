@@ -1,6 +1,6 @@
 -- `machine::advance` meets its contract. Assumes nothing.
 use native.Mathlib.Omega.{arith}
-use mathlib.Core.Path.{_∙_, ap}
+use mathlib.Core.Path.{refl, _∙_, ap}
 use borrow.Author.Needs.{needs}
 use Rattle.rules.specs.declared.Regs.{Regs}
 use Rattle.clock.specs.Quiet.{afterQuiet}
@@ -30,6 +30,11 @@ add-instructions c =
     let pre = c .before .before .before .before .before .before .pre in
     omega (arith, few _ _ _ (c .before .before .steps .ensures), pre .0 .count)
 
+instructions-requires : tie.Need-instructions-requires
+instructions-requires c κs =
+    let pre = c .before .before .before .before .before .before .before .before .before .pre in
+    ((pre .0 .good, omega arith), (refl, refl))
+
 counted-requires : tie.Need-counted-requires
 counted-requires c κs =
     let instructions = c .before .before .before .before .before .before .instructions in
@@ -46,56 +51,55 @@ after-requires c κs =
 
 settle-requires : tie.Need-settle-requires
 settle-requires c κs =
-    let after = c .before .before .before .before .before .after in
-    let instructions = c .before .before .before .before .before .before .before .before .before .before .before .before .before .instructions in
+    let after = c .before .before .before .before .after in
+    let instructions = c .before .before .before .before .before .before .before .before .before .before .before .before .instructions in
     rw (after .ensures) (instructions .ensures .good)
+
+sub-t39 : tie.Need-sub-t39
+sub-t39 c =
+    let instructions = c .before .before .before .before .before .before .before .before .before .before .before .before .before .before .before .before .before .before .before .before .before .instructions in
+    instructions .ensures .later
 
 sub-t40 : tie.Need-sub-t40
 sub-t40 c =
-    let instructions = c .before .before .before .before .before .before .before .before .before .before .before .before .before .before .before .before .before .before .before .before .before .before .instructions in
-    instructions .ensures .later
+    let instructions = c .before .before .before .before .before .before .before .before .before .before .before .before .before .before .before .before .before .before .before .before .before .instructions in
+    let met = c .before .before .before .before .before .before .before .before .before .before .before .before .before .before .before .match in
+    let steps = c .before .before .before .before .before .before .before .before .before .before .before .before .before .before .before .before .before .before .before .before .before .before .before .before .before .before .before .steps in
+    omega (arith, instructions .ensures .early (not-ok _ (met .keys2)) .0, few _ _ _ (steps .ensures))
 
 sub-t41 : tie.Need-sub-t41
 sub-t41 c =
-    let instructions = c .before .before .before .before .before .before .before .before .before .before .before .before .before .before .before .before .before .before .before .before .before .before .instructions in
-    let met = c .before .before .before .before .before .before .before .before .before .before .before .before .before .before .before .before .match in
-    let steps = c .before .before .before .before .before .before .before .before .before .before .before .before .before .before .before .before .before .before .before .before .before .before .before .before .before .before .before .before .steps in
-    omega (arith, instructions .ensures .early (not-ok _ (met .keys2)) .0, few _ _ _ (steps .ensures))
-
-sub-t42 : tie.Need-sub-t42
-sub-t42 c =
-    let instructions = c .before .before .before .before .before .before .before .before .before .before .before .before .before .before .before .before .before .before .before .before .before .before .instructions in
-    let met = c .before .before .before .before .before .before .before .before .before .before .before .before .before .before .before .before .match in
-    let steps = c .before .before .before .before .before .before .before .before .before .before .before .before .before .before .before .before .before .before .before .before .before .before .before .before .before .before .before .before .steps in
+    let instructions = c .before .before .before .before .before .before .before .before .before .before .before .before .before .before .before .before .before .before .before .before .before .instructions in
+    let met = c .before .before .before .before .before .before .before .before .before .before .before .before .before .before .before .match in
+    let steps = c .before .before .before .before .before .before .before .before .before .before .before .before .before .before .before .before .before .before .before .before .before .before .before .before .before .before .before .steps in
     omega (arith, instructions .ensures .early (not-ok _ (met .keys2)) .0, few _ _ _ (steps .ensures), instructions .ensures .later)
 
 same-length-4 : tie.Need-same-length-4
 same-length-4 c =
-    let instructions = c .before .before .before .before .before .before .before .before .before .before .before .before .before .before .before .before .before .before .before .before .before .before .instructions in
+    let instructions = c .before .before .before .before .before .before .before .before .before .before .before .before .before .before .before .before .before .before .before .before .before .instructions in
     let settle = c .before .before .before .before .before .before .before .before .settle in
-    omega (arith, instructions .kept .1 .1 .0, settle .kept .1 .1 .0)
+    omega (arith, instructions .kept .1 .1 .1 .1 .0, settle .kept .1 .1 .0)
 
 same-length-6 : tie.Need-same-length-6
 same-length-6 c =
-    let instructions = c .before .before .before .before .before .before .before .before .before .before .before .before .before .before .before .before .before .before .before .before .before .before .instructions in
+    let instructions = c .before .before .before .before .before .before .before .before .before .before .before .before .before .before .before .before .before .before .before .before .before .instructions in
     let settle = c .before .before .before .before .before .before .before .before .settle in
-    omega (arith, instructions .kept .1 .1 .1 .0, settle .kept .1 .1 .1 .1 .0)
+    omega (arith, instructions .kept .1 .1 .1 .1 .1 .0, settle .kept .1 .1 .1 .1 .0)
 
 returns-2 : tie.Need-returns-2
 returns-2 c =
-    let after = c .before .before .before .before .before .before .before .before .before .before .before .before .before .before .after in
-    let given = c .before .before .before .before .before .before .before .before .before .before .before .before .before .before .before .before .before .before .before .before .before .before .before .before .before .before .before .before .before .before .before .before .args in
-    let counted = c .before .before .before .before .before .before .before .before .before .before .before .before .before .before .before .counted in
-    let pre = c .before .before .before .before .before .before .before .before .before .before .before .before .before .before .before .before .before .before .before .before .before .before .before .before .before .before .before .before .before .before .before .before .pre in
-    let steps = c .before .before .before .before .before .before .before .before .before .before .before .before .before .before .before .before .before .before .before .before .before .before .before .before .before .before .before .before .steps in
-    let if1 = c .before .before .before .before .before .before .before .before .before .before .before .before .before .before .before .before .before .before .before .before .before .before .before .before .before .before .before .if1 in
-    let instructions = c .before .before .before .before .before .before .before .before .before .before .before .before .before .before .before .before .before .before .before .before .before .before .instructions in
-    let met = c .before .before .before .before .before .before .before .before .before .before .before .before .before .before .before .before .match in
-    let ended = c .before .before .before .before .before .before .before .before .before .before .before .before .before .ended in
+    let after = c .before .before .before .before .before .before .before .before .before .before .before .before .before .after in
+    let given = c .before .before .before .before .before .before .before .before .before .before .before .before .before .before .before .before .before .before .before .before .before .before .before .before .before .before .before .before .before .before .before .args in
+    let counted = c .before .before .before .before .before .before .before .before .before .before .before .before .before .before .counted in
+    let pre = c .before .before .before .before .before .before .before .before .before .before .before .before .before .before .before .before .before .before .before .before .before .before .before .before .before .before .before .before .before .before .before .pre in
+    let steps = c .before .before .before .before .before .before .before .before .before .before .before .before .before .before .before .before .before .before .before .before .before .before .before .before .before .before .before .steps in
+    let if1 = c .before .before .before .before .before .before .before .before .before .before .before .before .before .before .before .before .before .before .before .before .before .before .before .before .before .before .if1 in
+    let instructions = c .before .before .before .before .before .before .before .before .before .before .before .before .before .before .before .before .before .before .before .before .before .instructions in
+    let met = c .before .before .before .before .before .before .before .before .before .before .before .before .before .before .before .match in
     let settle = c .before .before .before .before .before .before .before .before .settle in
     let quiet = after .ensures ∙ ap (λ (q : Regs). afterQuiet (given .c) q) (counted .ensures) in
-    advance-early _ _ _ (pre .0) (steps .ensures) (omega (arith, if1 .left)) (instructions .ensures) (not-ok _ (met .keys2)) quiet (ended .ensures)
-    (instructions .kept .1 .1 .0) (settle .ensures) (settle .kept .1 .1 .0)
+    advance-early _ _ _ (pre .0) (steps .ensures) (omega (arith, if1 .left)) (instructions .ensures) (not-ok _ (met .keys2)) quiet
+    (instructions .kept .1 .1 .1 .1 .0) (settle .ensures) (settle .kept .1 .1 .0)
 
 after-requires-2 : tie.Need-after-requires-2
 after-requires-2 c κs =
@@ -116,7 +120,7 @@ returns-3 c =
     let if1 = c .before .before .before .before .before .before .before .before .before .before .before .before .before .if1 in
     let instructions = c .before .before .before .before .before .before .before .before .instructions in
     advance-all _ _ _ (pre .0) (steps .ensures) (omega (arith, if1 .left)) (instructions .ensures) (c .before .enum-told .given .1) (c .after2 .ensures)
-    (instructions .kept .1 .1 .0)
+    (instructions .kept .1 .1 .1 .1 .0)
 
 pub advance-spec : {M : Type 1} → statement M
 advance-spec =
@@ -130,15 +134,14 @@ advance-spec =
     (λ c. search needs)
     returns
     add-instructions
-    (λ c κs. search needs)
+    instructions-requires
     (λ c. search needs)
     counted-requires
     after-requires
-    (λ c κs. search needs)
     settle-requires
+    sub-t39
     sub-t40
     sub-t41
-    sub-t42
     same-length-4
     (λ c. search needs)
     same-length-6

@@ -1,4 +1,5 @@
 -- `machine::step` meets its contract. Assumes nothing.
+use native.Mathlib.Omega.{arith}
 use mathlib.Core.Path.{refl}
 use borrow.Author.Needs.{needs}
 use Rattle.machine.proofs.StepLaws.{good-ticked, good-awake, step-due, step-waits, step-executes}
@@ -27,21 +28,26 @@ returns-2 c =
     let pre = c .before .before .before .before .before .before .before .before .pre in
     step-waits _ _ (due-trap .ensures) (tick .ensures) (c .before .enum-told .given .1) (c .if1 .taken) refl (good-ticked _ _ (tick .ensures) (pre .0))
 
+instructions-requires : tie.Need-instructions-requires
+instructions-requires c κs =
+    let pre = c .before .before .before .before .before .before .before .before .before .before .before .before .pre in
+    ((pre .0, omega arith), (refl, refl))
+
 settle-requires : tie.Need-settle-requires
 settle-requires c κs =
-    let tick = c .before .before .before .before .before .before .before .before .before .before .before .before .before .before .before .before .before .tick in
-    let instructions = c .before .before .before .before .before .before .before .before .before .instructions in
+    let tick = c .before .before .before .before .before .before .before .before .before .before .before .before .before .before .before .before .tick in
+    let instructions = c .before .before .before .before .before .before .before .before .instructions in
     good-ticked _ _ (tick .ensures) (instructions .ensures .good)
 
 returns-3 : tie.Need-returns-3
 returns-3 c =
-    let due-trap = c .before .before .before .before .before .before .before .before .before .before .before .before .before .before .before .before .before .before .before .before .before .before .before .before .before .due-trap in
-    let tick = c .before .before .before .before .before .before .before .before .before .before .before .before .before .before .before .before .before .before .before .before .before .before .before .before .tick in
-    let enum-told = c .before .before .before .before .before .before .before .before .before .before .before .before .before .before .before .before .before .before .before .before .before .before .enum-told in
-    let if1 = c .before .before .before .before .before .before .before .before .before .before .before .before .before .before .before .before .before .before .before .before .before .if1 in
-    let instructions = c .before .before .before .before .before .before .before .before .before .before .before .before .before .before .before .before .instructions in
+    let due-trap = c .before .before .before .before .before .before .before .before .before .before .before .before .before .before .before .before .before .before .before .before .before .before .before .before .due-trap in
+    let tick = c .before .before .before .before .before .before .before .before .before .before .before .before .before .before .before .before .before .before .before .before .before .before .before .tick in
+    let enum-told = c .before .before .before .before .before .before .before .before .before .before .before .before .before .before .before .before .before .before .before .before .before .enum-told in
+    let if1 = c .before .before .before .before .before .before .before .before .before .before .before .before .before .before .before .before .before .before .before .before .if1 in
+    let instructions = c .before .before .before .before .before .before .before .before .before .before .before .before .before .before .before .instructions in
     let settle = c .before .before .before .before .before .before .settle in
-    step-executes _ _ (due-trap .ensures) (tick .ensures) (enum-told .given .1) (if1 .left) (instructions .kept .1 .1 .0) (instructions .ensures) (settle .ensures)
+    step-executes _ _ (due-trap .ensures) (tick .ensures) (enum-told .given .1) (if1 .left) (instructions .kept .1 .1 .1 .1 .0) (instructions .ensures) (settle .ensures)
 
 pub step-spec : {M : Type 1} → statement M
 step-spec =
@@ -58,7 +64,7 @@ step-spec =
     (λ c. search needs)
     returns-2
     (λ c. search needs)
-    (λ c κs. search needs)
+    instructions-requires
     settle-requires
     (λ c. search needs)
     (λ c. search needs)

@@ -10,8 +10,8 @@ use Rattle.transfer.proofs.leave.Tie as tie
 returns : tie.Need-returns
 unfolding leaveTree
 returns c =
-    let translate = c .before .before .before .before .before .before .before .before .translate in
-    executes-denied (translate .ensures) (c .before .before .enum-told .given .1) (c .before .fault-of .ensures) (c .ended .ensures)
+    let translate = c .before .before .before .before .before .before .before .translate in
+    executes-denied (translate .ensures) (c .before .enum-told .given .1) (c .refused .ensures)
 
 load4-requires : tie.Need-load4-requires
 load4-requires c κs =
@@ -22,10 +22,10 @@ load4-requires c κs =
 returns-2 : tie.Need-returns-2
 unfolding leaveTree
 returns-2 c =
-    let translate = c .before .before .before .before .before .before .before .before .before .before .before .before .translate in
-    let p = c .before .before .before .before .before .before .p in
-    let load4 = c .before .before .before .load4 in
-    executes-read (translate .ensures) (p .given .1) (load4 .ensures) (executes-fine (translate .ensures .good) (rw (c .fine .ensures, c .before .sum2 .ensures, c .before .before .sum .ensures)))
+    let translate = c .before .before .before .before .before .before .before .before .before .before .before .before .before .translate in
+    let p = c .before .before .before .before .before .before .before .p in
+    let load4 = c .before .before .before .before .load4 in
+    executes-read (translate .ensures) (p .given .1) (load4 .ensures) (executes-fine (translate .ensures .good) (rw (c .fine .ensures, c .before .regs .ensures, c .before .before .sum2 .ensures, c .before .before .before .sum .ensures)))
 
 pub leave-spec : {M : Type 1} → statement M
 leave-spec =
@@ -35,7 +35,6 @@ leave-spec =
     (λ c. search needs)
     (λ c. search needs)
     (λ c κs. search needs)
-    (λ c κs. search needs)
     (λ c. search needs)
     (λ c. search needs)
     returns
@@ -44,6 +43,7 @@ leave-spec =
     (λ c κs. search needs)
     (λ c. search needs)
     (λ c. search needs)
+    (λ c κs. search needs)
     (λ c κs. search needs)
     (λ c. search needs)
     (λ c. search needs)

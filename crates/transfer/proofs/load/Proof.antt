@@ -10,11 +10,11 @@ use Rattle.transfer.proofs.load.Tie as tie
 returns : tie.Need-returns
 unfolding loadTree
 returns c =
-    let size = c .before .before .before .before .before .before .before .before .before .before .before .before .before .before .size in
-    let base = c .before .before .before .before .before .before .before .before .before .before .before .before .before .base in
-    let sum = c .before .before .before .before .before .before .before .before .before .before .before .before .sum in
-    let translate = c .before .before .before .before .before .before .before .before .translate in
-    rw (← size .ensures, ← base .ensures, ← sum .ensures) (executes-denied (translate .ensures) (c .before .before .enum-told .given .1) (c .before .fault-of .ensures) (c .ended .ensures))
+    let size = c .before .before .before .before .before .before .before .before .before .before .before .before .before .size in
+    let base = c .before .before .before .before .before .before .before .before .before .before .before .before .base in
+    let sum = c .before .before .before .before .before .before .before .before .before .before .before .sum in
+    let translate = c .before .before .before .before .before .before .before .translate in
+    rw (← size .ensures, ← base .ensures, ← sum .ensures) (executes-denied (translate .ensures) (c .before .enum-told .given .1) (c .refused .ensures))
 
 value-requires : tie.Need-value-requires
 value-requires c κs =
@@ -43,7 +43,6 @@ load-spec =
     (λ c κs. search needs)
     (λ c. search needs)
     (λ c. search needs)
-    (λ c κs. search needs)
     (λ c κs. search needs)
     (λ c. search needs)
     (λ c. search needs)

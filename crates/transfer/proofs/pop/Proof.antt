@@ -10,8 +10,8 @@ use Rattle.transfer.proofs.pop.Tie as tie
 returns : tie.Need-returns
 unfolding popTree
 returns c =
-    let translate = c .before .before .before .before .before .before .before .before .translate in
-    executes-denied (translate .ensures) (c .before .before .enum-told .given .1) (c .before .fault-of .ensures) (c .ended .ensures)
+    let translate = c .before .before .before .before .before .before .before .translate in
+    executes-denied (translate .ensures) (c .before .enum-told .given .1) (c .refused .ensures)
 
 load4-requires : tie.Need-load4-requires
 load4-requires c κs =
@@ -34,7 +34,6 @@ pop-spec =
     (λ c κs. search needs)
     (λ c. search needs)
     (λ c. search needs)
-    (λ c κs. search needs)
     (λ c κs. search needs)
     (λ c. search needs)
     (λ c. search needs)

@@ -9,10 +9,10 @@ use Rattle.transfer.proofs.store.Tie as tie
 returns : tie.Need-returns
 unfolding storeTree
 returns c =
-    let base = c .before .before .before .before .before .before .before .before .before .before .before .before .before .base in
-    let sum = c .before .before .before .before .before .before .before .before .before .before .before .before .sum in
-    let translate = c .before .before .before .before .before .before .before .before .translate in
-    rw (← base .ensures, ← sum .ensures) (executes-denied (translate .ensures) (c .before .before .enum-told .given .1) (c .before .fault-of .ensures) (c .ended .ensures))
+    let base = c .before .before .before .before .before .before .before .before .before .before .before .before .base in
+    let sum = c .before .before .before .before .before .before .before .before .before .before .before .sum in
+    let translate = c .before .before .before .before .before .before .before .translate in
+    rw (← base .ensures, ← sum .ensures) (executes-denied (translate .ensures) (c .before .enum-told .given .1) (c .refused .ensures))
 
 store-requires : tie.Need-store-requires
 store-requires c κs =
@@ -40,7 +40,6 @@ store-spec =
     (λ c κs. search needs)
     (λ c. search needs)
     (λ c. search needs)
-    (λ c κs. search needs)
     (λ c κs. search needs)
     (λ c. search needs)
     (λ c. search needs)

@@ -13,10 +13,9 @@ use Rattle.rules.specs.Outcome.{Out, fine, unfetched, trap, refused, system}
 use Rattle.rules.specs.Trap.{Final, nextPc}
 use Rattle.rules.specs.Step.{State, finished, settleTree}
 use Rattle.outcome.specs.declared.Done.{Done}
-use Rattle.outcome.specs.Contract.{madeBy, made, stateOf, Executes, Finishes}
+use Rattle.outcome.specs.Contract.{outOf, madeBy, made, stateOf, Executes, Finishes}
 use Rattle.outcome.proofs.Trees.{bind-law}
-use Rattle.system.specs.Settle.{outOf}
 use Rattle.system.proofs.OlderGrants.{ends, run, fresh-trap, fresh-fault, fresh-system}
 
 -- the step count is the record's, however a step ends
 pub finishes-count : {t : Tree Final} {k : Cpu} {m con l : List ℕ} {c : Cpu} {m′ con′ l′ : List ℕ} → Finishes t k m con l c m′ con′ l′
@@ -26,8 +25,8 @@ finishes-count h = ap (λ (s : State (List Entry)). s .cpu .regs .count) (h .sam
 
 module _ (size room : ℕ) (c : Cpu) (con : List ℕ) where
   -- the rest of a step, from the code's answer
-  abbrev rest : Result Done → State (List Entry)
-  rest d = run c con (settleTree size room c (outOf c (d .answer))) (d .mem) (d .buffer) []
+  abbrev rest : Result Out → State (List Entry)
+  rest d = run c con (settleTree size room c (d .answer)) (d .mem) (d .buffer) []
 
   settle-by : (o : Out) (gs : List Grant) (m : List ℕ) (es : List Entry) → run c con (settleTree size room c o) m es gs ≡ rest (madeBy o gs m es)
   unfolding settleTree madeBy interpret finished storeAll
@@ -47,6 +46,6 @@ module _ (size room : ℕ) (c : Cpu) (con : List ℕ) where
 
   -- where the code executed the instruction, and then the rest from its answer
   pub finishes-bind : {t : Tree Out} {m l : List ℕ} {d : Done} {m′ l′ : List ℕ} {x : Cpu} {m″ con″ l″ : List ℕ}
-      → Executes t (c .space) (c .system .user) [] m l d m′ l′ → Finishes (settleTree size room c (outOf c d)) c m′ con l′ x m″ con″ l″
+      → Executes t (c .space) (c .system .user) [] m l d m′ l′ → Finishes (settleTree size room c (outOf d)) c m′ con l′ x m″ con″ l″
       → Finishes (bind t (settleTree size room c)) c m con l x m″ con″ l″
   finishes-bind {t} {m} {l} e h = record { same = h .same ∙ ap rest (e .same) ∙ sym (settle-law t m (held l)); good = h .good }
