@@ -10,7 +10,7 @@ use borrow.Author.Tests.{lt-ltb, le-ltb}
 use Rattle.word.specs.Word.{if_then_else_}
 use Rattle.paging.specs.declared.Entry.{Entry}
 use Rattle.paging.specs.Buffer.{has, place, entryPage, fits, roomIn, keep}
-use Rattle.buffer.specs.Held.{pageIn, count, unpack, held, indexOf, Buffer}
+use Rattle.buffer.specs.Held.{pageIn, count, unpack, entriesIn, indexOf, Buffer}
 use Rattle.buffer.proofs.Slots.{length-held, buffer-set, buffer-counted, held-set, held-append}
 
 -- ---- `has` and `place` by the place of a page's entry
@@ -60,30 +60,30 @@ place-new e (x ∷ xs) l = go (eqb (x .page) (e .page)) l (place-new e xs)
 -- ---- the three ways to keep an entry
 
 abbrev Kept : ℕ → List ℕ → List ℕ → Type 0
-Kept e l l′ = (held l′ ≡ keep (unpack e) (held l)) × Buffer l′
+Kept e l l′ = (entriesIn l′ ≡ keep (unpack e) (entriesIn l)) × Buffer l′
 
-module _ (l : List ℕ) (e : ℕ) (b : Buffer l) {i : ℕ} (p : i ≡ indexOf (pageIn e) (held l)) where
+module _ (l : List ℕ) (e : ℕ) (b : Buffer l) {i : ℕ} (p : i ≡ indexOf (pageIn e) (entriesIn l)) where
   pub keep-same : i < count l → Kept e l (set l i e)
   unfolding keep roomIn fits
   keep-same h =
-      let q : indexOf (pageIn e) (held l) < length (held l) = rw (← p, length-held l b) h in
+      let q : indexOf (pageIn e) (entriesIn l) < length (entriesIn l) = rw (← p, length-held l b) h in
       let s : i < 64 = omega arith in
-      (rw (has-found _ _ q, place-found (unpack e) (held l) q, ← p) (held-set l b e i s h), buffer-set l b e i s)
+      (rw (has-found _ _ q, place-found (unpack e) (entriesIn l) q, ← p) (held-set l b e i s h), buffer-set l b e i s)
 
   module _ (h : count l ≤ i) where
-    new : length (held l) ≤ indexOf (pageIn e) (held l)
+    new : length (entriesIn l) ≤ indexOf (pageIn e) (entriesIn l)
     new = rw (← p, length-held l b) h
 
     pub keep-first : 64 ≤ count l → Kept e l (set (set l 0 e) 64 1)
     unfolding keep roomIn fits place
     keep-first q =
         let s : 0 < 64 = omega arith in
-        let r : 64 ≤ length (held l) = rw (length-held l b) q in
+        let r : 64 ≤ length (entriesIn l) = rw (length-held l b) q in
         (rw (has-none _ _ new, le-ltb _ _ r) (held-append l b e 0 s), buffer-counted (set l 0 e) (buffer-set l b e 0 s) 1 (omega arith))
 
     pub keep-next : {n : ℕ} → n ≡ count l → n < 64 → Kept e l (set (set l n e) 64 (n + 1))
-    unfolding keep roomIn fits held
+    unfolding keep roomIn fits entriesIn
     keep-next {n} c s =
-        let r : length (held l) < 64 = rw (length-held l b, ← c) s in
+        let r : length (entriesIn l) < 64 = rw (length-held l b, ← c) s in
         let t = buffer-counted (set l n e) (buffer-set l b e n s) (n + 1) (omega arith) in
-        (rw (has-none _ _ new, lt-ltb _ _ r, place-new (unpack e) (held l) new, ← c) (held-append l b e n s), t)
+        (rw (has-none _ _ new, lt-ltb _ _ r, place-new (unpack e) (entriesIn l) new, ← c) (held-append l b e n s), t)

@@ -12,7 +12,7 @@ use borrow.Author.Tests.{ltb-true}
 use Rattle.paging.specs.declared.Entry.{Entry}
 use Rattle.paging.specs.Buffer.{has, entryPage, entryOk, entriesOk, bufferOk}
 use Rattle.paging.proofs.BoolLaws.{both}
-use Rattle.buffer.specs.Held.{frames, pageIn, count, entry, unpack, held, Buffer}
+use Rattle.buffer.specs.Held.{frames, pageIn, count, entry, unpack, entriesIn, Buffer}
 use Rattle.buffer.proofs.Slots.{length-held, held-at, map-snoc}
 use Rattle.buffer.proofs.Entries.{buffer-entries}
 
@@ -28,9 +28,9 @@ pages-small n d (e ∷ es) zero h l = ltb-true _ _ (both (ltb (e .page) 1048576)
 pages-small n d (e ∷ es) (suc i) h l = pages-small n d es i (both (not (has entryPage (e .page) es)) _ (both (entryOk n e) _ h .1) .1) (omega arith)
 
 -- the page of a counted number
-pub page-fits : (n : ℕ) (l : List ℕ) (i : ℕ) → Buffer l → bufferOk n (held l) ≡ true → i < count l → pageIn (getD l i 0) < 1048576
+pub page-fits : (n : ℕ) (l : List ℕ) (i : ℕ) → Buffer l → bufferOk n (entriesIn l) ≡ true → i < count l → pageIn (getD l i 0) < 1048576
 page-fits n l i b h k =
-    let r = pages-small n (unpack 0) (held l) i (buffer-entries n (held l) h) (rw (length-held l b) k) in
+    let r = pages-small n (unpack 0) (entriesIn l) i (buffer-entries n (entriesIn l) h) (rw (length-held l b) k) in
     rw (← ap (λ (e : Entry). e .page) (held-at l i k)) r
 
 frames-small : (n : ℕ) (es : List Entry) (i : ℕ) → n ≤ 134217728 → entriesOk n es ≡ true → getD es i zeros .frame < frames
@@ -58,8 +58,8 @@ module _ (n : ℕ) (es : List Entry) (z : length es ≡ 64) (few : n ≤ 64) whe
       rw (add-one i, take-suc-set l i e a, map-snoc unpack (take i l) e, inv, q, take-suc es i zeros b)
 
   pub packed-all : (l : List ℕ) (i : ℕ) → length l ≡ 65 → i ≤ n → n ≤ i → map unpack (take i l) ≡ take i es
-      → (held (set l 64 n) ≡ take n es) × Buffer (set l 64 n)
-  unfolding held
+      → (entriesIn (set l 64 n) ≡ take n es) × Buffer (set l 64 n)
+  unfolding entriesIn
   packed-all l i y h k inv′ =
       let q : i ≡ n = omega arith in
       let inv : map unpack (take n l) ≡ take n es = rw q at inv′ in
@@ -77,6 +77,6 @@ unpacked-next l es i {e} z h k inv q =
     rw (add-one i, take-suc-set es i e a, inv, q, take-suc l i 0 k) (sym (map-snoc unpack (take i l) (getD l i 0)))
 
 pub unpacked-all : (l : List ℕ) (es : List Entry) (i : ℕ) → i ≤ count l → count l ≤ i → take i es ≡ map unpack (take i l)
-    → take (count l) es ≡ held l
-unfolding held
+    → take (count l) es ≡ entriesIn l
+unfolding entriesIn
 unpacked-all l es i h k inv = let q : i ≡ count l = omega arith in rw q at inv

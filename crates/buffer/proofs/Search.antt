@@ -9,7 +9,7 @@ use lib.ListN.{length, getD, drop, drop-of-length-le}
 use lib.Seq.{drop-cons}
 use borrow.Author.Tests.{eq-eqb, ne-eqb}
 use Rattle.paging.specs.declared.Entry.{Entry}
-use Rattle.buffer.specs.Held.{pageIn, count, unpack, held, indexOf, Buffer}
+use Rattle.buffer.specs.Held.{pageIn, count, unpack, entriesIn, indexOf, Buffer}
 use Rattle.buffer.proofs.Slots.{length-held, held-at}
 
 -- i entries are passed
@@ -29,12 +29,12 @@ module _ (p : ℕ) (es : List Entry) (i : ℕ) (h : Passed p es i) where
   unfolding indexOf
   index-end l = h ∙ rw (drop-of-length-le es l) (add-zero i)
 
-module _ (l : List ℕ) (p i : ℕ) (b : Buffer l) (h : Passed p (held l) i) where
-  pub search-here : i < count l → pageIn (getD l i 0) ≡ p → i ≡ indexOf p (held l)
-  search-here k e = sym (index-here p (held l) i h (rw (length-held l b) k) (ap (λ (x : Entry). x .page) (held-at l i k) ∙ e))
+module _ (l : List ℕ) (p i : ℕ) (b : Buffer l) (h : Passed p (entriesIn l) i) where
+  pub search-here : i < count l → pageIn (getD l i 0) ≡ p → i ≡ indexOf p (entriesIn l)
+  search-here k e = sym (index-here p (entriesIn l) i h (rw (length-held l b) k) (ap (λ (x : Entry). x .page) (held-at l i k) ∙ e))
 
-  pub search-next : i < count l → (pageIn (getD l i 0) ≡ p → ⊥) → Passed p (held l) (i + 1)
-  search-next k e = index-next p (held l) i h (rw (length-held l b) k) (λ q. e (sym (ap (λ (x : Entry). x .page) (held-at l i k)) ∙ q))
+  pub search-next : i < count l → (pageIn (getD l i 0) ≡ p → ⊥) → Passed p (entriesIn l) (i + 1)
+  search-next k e = index-next p (entriesIn l) i h (rw (length-held l b) k) (λ q. e (sym (ap (λ (x : Entry). x .page) (held-at l i k)) ∙ q))
 
-  pub search-end : count l ≤ i → i ≡ indexOf p (held l)
-  search-end k = sym (index-end p (held l) i h (rw (length-held l b) k))
+  pub search-end : count l ≤ i → i ≡ indexOf p (entriesIn l)
+  search-end k = sym (index-end p (entriesIn l) i h (rw (length-held l b) k))

@@ -6,14 +6,14 @@ use mathlib.Core.Path.{_≡_, refl, ap, _∙_}
 use mathlib.Core.List.{List, [], _∷_, _++_, map}
 use lib.ListN.{length, getD, take, set, length-map, length-set, List·getD-map}
 use lib.Seq.{length-take-le, getD-take, getD-set-same, getD-set-other, take-set-lt, take-set-le, take-suc-set}
-use Rattle.buffer.specs.Held.{count, unpack, held, Buffer}
+use Rattle.buffer.specs.Held.{count, unpack, entriesIn, Buffer}
 
-pub length-held : (l : List ℕ) → Buffer l → length (held l) ≡ count l
-unfolding held
+pub length-held : (l : List ℕ) → Buffer l → length (entriesIn l) ≡ count l
+unfolding entriesIn
 length-held l b = length-map (take (count l) l) unpack ∙ length-take-le (count l) l (omega arith)
 
-pub held-at : (l : List ℕ) (i : ℕ) → i < count l → getD (held l) i (unpack 0) ≡ unpack (getD l i 0)
-unfolding held
+pub held-at : (l : List ℕ) (i : ℕ) → i < count l → getD (entriesIn l) i (unpack 0) ≡ unpack (getD l i 0)
+unfolding entriesIn
 held-at l i h = List·getD-map unpack (take (count l) l) i 0 ∙ ap unpack (getD-take (count l) l i 0 h)
 
 map-set : {A B : Type 0} (f : A → B) (l : List A) (i : ℕ) (a : A) → map f (set l i a) ≡ set (map f l) i (f a)
@@ -32,8 +32,8 @@ module _ (l : List ℕ) (b : Buffer l) where
       let k : 64 < length l = omega arith in
       record { size = length-set l 64 n ∙ b .size; few = rw (getD-set-same l 64 n 0 k) h }
 
-  pub held-none : held (set l 64 0) ≡ []
-  unfolding held
+  pub held-none : entriesIn (set l 64 0) ≡ []
+  unfolding entriesIn
   held-none =
       let k : 64 < length l = omega arith in
       rw (getD-set-same l 64 0 0 k)
@@ -45,15 +45,15 @@ module _ (l : List ℕ) (b : Buffer l) where
         let n : (64 ≡ i → ⊥) = λ q. omega arith in
         record { size = length-set l i e ∙ b .size; few = rw (getD-set-other l i 64 e 0 n) (b .few) }
 
-    pub held-set : i < count l → held (set l i e) ≡ set (held l) i (unpack e)
-    unfolding held
+    pub held-set : i < count l → entriesIn (set l i e) ≡ set (entriesIn l) i (unpack e)
+    unfolding entriesIn
     held-set k =
         let n : (64 ≡ i → ⊥) = λ q. omega arith in
         rw (getD-set-other l i 64 e 0 n, take-set-lt (count l) l i e k) (map-set unpack (take (count l) l) i e)
 
     -- a slot set anew that is the last counted one from now on
-    pub held-append : held (set (set l i e) 64 (i + 1)) ≡ map unpack (take i l) ++ (unpack e ∷ [])
-    unfolding held
+    pub held-append : entriesIn (set (set l i e) 64 (i + 1)) ≡ map unpack (take i l) ++ (unpack e ∷ [])
+    unfolding entriesIn
     held-append =
         let k : 64 < length (set l i e) = rw (length-set l i e) (omega arith) in
         let k′ : i < length l = omega arith in

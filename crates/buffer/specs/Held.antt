@@ -46,8 +46,8 @@ abbrev pub unpack : ℕ → Entry
 unpack w = entry (pageIn w) (frameIn w) (bit 2 w) (bit 1 w)
 
 -- the counted entries, in order
-unfoldable pub held : List ℕ → List Entry
-held l = map unpack (take (count l) l)
+unfoldable pub entriesIn : List ℕ → List Entry
+entriesIn l = map unpack (take (count l) l)
 
 -- where the entry of page p stands, or how many entries there are
 unfoldable pub indexOf : ℕ → List Entry → ℕ

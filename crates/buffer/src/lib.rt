@@ -4,7 +4,7 @@ ghost use mathlib.Core.Path.{_≡_};
 ghost use Prim.Native.Nat.{_+_, _*_, _/_, _%_, _<_, _≤_};
 ghost use lib.ListN.{length, set};
 ghost use Rattle.paging.specs.Buffer.{serves, keep};
-ghost use Rattle.buffer.specs.Held.{slots, frames, pageIn, entry, unpack, count, held, indexOf, slotHit, Buffer};
+ghost use Rattle.buffer.specs.Held.{slots, frames, pageIn, entry, unpack, count, entriesIn, indexOf, slotHit, Buffer};
 use paging::Access;
 use paging::Entry;
 
@@ -86,7 +86,7 @@ pub fn slot(tlb: &[u64], i: usize, page: u64, kind: Access, user: bool) -> Hit
 // Where the entry of a page stands, or the count of entries.
 pub fn lookup(tlb: &[u64], page: u64) -> usize
     requires { ⌜ Buffer (now tlb) ⌝ }
-    ensures { λ r. ⌜ r ≡ indexOf page (held (now (tlb .entry))) ⌝ }
+    ensures { λ r. ⌜ r ≡ indexOf page (entriesIn (now (tlb .entry))) ⌝ }
 {
     let n = count(tlb);
     let mut i = 0;
@@ -101,8 +101,8 @@ pub fn lookup(tlb: &[u64], page: u64) -> usize
 
 // Keeps an entry whose page was looked up at `i`: in the place of the same page's, or after the others, or alone where there is no more room.
 pub fn keep(tlb: &mut [u64], i: usize, e: u64)
-    requires { ⌜ Buffer (now tlb) × (i ≡ indexOf (pageIn e) (held (now tlb))) ⌝ }
-    ensures { λ _. ⌜ (held (now (tlb .exit)) ≡ keep (unpack e) (held (now (tlb .entry)))) × Buffer (now (tlb .exit)) ⌝ }
+    requires { ⌜ Buffer (now tlb) × (i ≡ indexOf (pageIn e) (entriesIn (now tlb))) ⌝ }
+    ensures { λ _. ⌜ (entriesIn (now (tlb .exit)) ≡ keep (unpack e) (entriesIn (now (tlb .entry)))) × Buffer (now (tlb .exit)) ⌝ }
 {
     let n = count(tlb);
     if i < n {
@@ -119,7 +119,7 @@ pub fn keep(tlb: &mut [u64], i: usize, e: u64)
 // Empties the buffer.
 pub fn empty(tlb: &mut [u64])
     requires { ⌜ Buffer (now tlb) ⌝ }
-    ensures { λ _. ⌜ (held (now (tlb .exit)) ≡ []) × Buffer (now (tlb .exit)) ⌝ }
+    ensures { λ _. ⌜ (entriesIn (now (tlb .exit)) ≡ []) × Buffer (now (tlb .exit)) ⌝ }
 {
     tlb[64] = 0;
 }

@@ -3,7 +3,7 @@
 ghost use Prim.Native.Nat.{_≤_};
 use rules::Key;
 use rules::Machine;
-use runs::Ran;
+use runs::RunResult;
 use v9::Numbered;
 
 // A run with the first n of the keys.
@@ -14,7 +14,7 @@ pub fn run(
     keys: [Key; 64],
     n: usize,
     budget: u64,
-) -> Ran
+) -> RunResult
     requires { ⌜ n ≤ 64 ⌝ }
 {
     v9::run(m, mem, console, &keys[..n], budget)

@@ -4,7 +4,7 @@ use crate::given::key_count;
 use crate::given::keys_of;
 use rules::Key;
 use rules::Machine;
-use runs::Ran;
+use runs::RunResult;
 
 // What a run gives, whichever entry made it: the record, the answer's number, the reported steps.
 pub struct Made {
@@ -13,7 +13,7 @@ pub struct Made {
     pub steps: u64,
 }
 
-fn made_of(r: Ran) -> Made {
+fn made_of(r: RunResult) -> Made {
     let answer = r.answer;
     let machine = r.machine;
     Made {

@@ -13,7 +13,7 @@ use Rattle.rules.specs.declared.Clock.{Clock}
 use Rattle.rules.specs.declared.Cpu.{Cpu}
 use Rattle.rules.specs.declared.Next.{Next}
 use Rattle.rules.specs.Record.{withCount, withClock, withTimer}
-use Rattle.rules.specs.Clock.{counted, keyComes, keyed, timerFires, timed, ticked, dueBy, dueOf}
+use Rattle.rules.specs.Clock.{stepCounted, keyComes, keyed, timerFires, timed, ticked, dueBy, dueOf}
 use Rattle.clock.specs.Quiet.{least, beforeKey, beforeTimer, quietSteps, Quiet, timerAt, afterQuiet, Room}
 use Rattle.clock.proofs.Before.{least-bounds}
 
@@ -115,8 +115,8 @@ module _ (k : Next) (c : Cpu) (limit : ℕ) (q : Quiet k c limit) (r : Regs) (la
   pub quiet-ticked : ticked k (afterQuiet c r) ≡ afterQuiet c (withCount (r .count + 1) r)
   unfolding ticked at
   quiet-ticked =
-      ap (λ (b : Bool). withClock (timed (keyed k b (at (r .count)))) (counted (afterQuiet c r))) quiet-key
-      ∙ ap (λ (t : Clock). withClock t (counted (afterQuiet c r))) quiet-timed
+      ap (λ (b : Bool). withClock (timed (keyed k b (at (r .count)))) (stepCounted (afterQuiet c r))) quiet-key
+      ∙ ap (λ (t : Clock). withClock t (stepCounted (afterQuiet c r))) quiet-timed
 
 -- before the first of such steps
 pub after-none : (c : Cpu) → afterQuiet c (c .regs) ≡ c

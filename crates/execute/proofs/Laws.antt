@@ -18,7 +18,7 @@ use Rattle.paging.specs.declared.Space.{Space}
 use Rattle.paging.specs.TrapCode.{FARITH}
 use Rattle.paging.specs.Walk.{isWrite}
 use Rattle.mmu.specs.Good.{Good}
-use Rattle.mmu.specs.State.{Translates}
+use Rattle.mmu.specs.Translates.{Translates}
 use Rattle.rules.specs.declared.Regs.{Regs}
 use Rattle.rules.specs.Record.{withA}
 use Rattle.rules.specs.Tree.{Grant, done, requested}

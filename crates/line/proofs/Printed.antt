@@ -17,10 +17,10 @@ use Rattle.rules.specs.declared.Key.{Key}
 use Rattle.rules.specs.declared.Machine.{Machine}
 use Rattle.rules.specs.Record.{stopNumber}
 use Rattle.rules.specs.Load.{Loaded, loadBy, load}
-use Rattle.rules.specs.Run.{Ran, run, reported}
+use Rattle.rules.specs.Run.{RunResult, run, reported}
 use Rattle.rules.specs.Step.{State}
 use Rattle.refusals.specs.View.{firstSlots, entriesOf, viewOf}
-use Rattle.runs.specs.declared.Ran.{Ran as Went}
+use Rattle.runs.specs.declared.RunResult.{RunResult as Went}
 use Rattle.v9.specs.Contract.{RunsAs}
 use Rattle.line.specs.Line.{stopLine, refusedLine, Shows}
 use Rattle.line.specs.Program.{startOf, runOf, ranLine, loadedLine, lineOf}
@@ -53,7 +53,7 @@ ran-by : (l : Loaded) (con : List ℕ) {n : ℕ} → n ≡ loadNumber (l .answer
 ran-by l con q z = rw (eq-eqb (loadNumber (l .answer)) 0 (sym q ∙ z))
 
 -- the line of a record in which a run ended
-ended : (ran : Ran (List Entry)) (x : Machine) {n : ℕ} {m′ con′ : List ℕ} → n ≡ reported ran → viewOf x m′ con′ ≡ ran .state
+ended : (ran : RunResult (List Entry)) (x : Machine) {n : ℕ} {m′ con′ : List ℕ} → n ≡ reported ran → viewOf x m′ con′ ≡ ran .state
     → stopLine (stopNumber (x .cpu .stop)) n (x .cpu .regs) ≡ ranLine ran
 ended ran x p q = rw (p, ← q)
 

@@ -5,10 +5,8 @@ use mathlib.Core.List.{List}
 use mathlib.Core.Path.{_≡_, refl, sym, ap, _∙_, subst}
 use lib.ListN.{length}
 use Rattle.paging.specs.declared.Entry.{Entry}
-use Rattle.paging.specs.Translate.{buffered}
-use Rattle.buffer.specs.Held.{held}
 use Rattle.mmu.specs.Good.{Good}
-use Rattle.mmu.specs.State.{state as result}
+use Rattle.mmu.specs.Translates.{Kept, state as result, keptIn, translator}
 use Rattle.rules.specs.declared.Cpu.{Cpu}
 use Rattle.rules.specs.declared.Key.{Key}
 use Rattle.rules.specs.declared.Next.{Next}
@@ -17,11 +15,11 @@ use Rattle.rules.specs.Clock.{nextOf}
 use Rattle.rules.specs.Step.{State, settleTree, finished, steppedBy, stepBy, step}
 use Rattle.outcome.specs.declared.Done.{Done}
 use Rattle.outcome.specs.declared.End.the-variants.{Ok}
-use Rattle.outcome.specs.Contract.{outOf, stateOf, Finishes}
+use Rattle.outcome.specs.Contract.{outOf, stateOf, Finishes, endOf}
 use Rattle.clock.specs.Quiet.{quietSteps, Quiet, afterQuiet, Room}
 use Rattle.clock.proofs.QuietSteps.{quiet-few, quiet-steps, quiet-room}
 use Rattle.machine.specs.Settled.{settled}
-use Rattle.machine.specs.Instructions.{counted, reached, InstructionsEnd}
+use Rattle.machine.specs.Instructions.{raiseCount, InstructionsEnd}
 use Rattle.machine.specs.Step.{Steps}
 use Rattle.machine.specs.Advance.{Ready, Advances}
 use Rattle.machine.proofs.QuietStep.{run-on}
@@ -50,8 +48,8 @@ module _ (c : Cpu) (left : ℕ) (k : Next) {n : ℕ} (q : n ≡ quietSteps k c l
       pub all-room : b .end ≡ Ok → Room c (b .regs)
       all-room e = quiet-room k c (c .regs .count + n) quiet (b .regs) (h .later) (omega (arith, h .all e .0))
 
-      pub early-room : (b .end ≡ Ok → ⊥) → Room c (counted (b .regs))
-      early-room e = quiet-room k c (c .regs .count + n) quiet (counted (b .regs)) (omega (arith, h .later)) (omega (arith, h .early e .0))
+      pub early-room : (b .end ≡ Ok → ⊥) → Room c (raiseCount (b .regs))
+      early-room e = quiet-room k c (c .regs .count + n) quiet (raiseCount (b .regs)) (omega (arith, h .later)) (omega (arith, h .early e .0))
 
 -- ---- a run goes on
 
@@ -63,12 +61,12 @@ module _ (c : Cpu) (left : ℕ) (k : Next) {m l : List ℕ} (ready : Ready c lef
   advance-step {con} h n = record {
     good = h .good;
     less = omega (arith, ready .some);
-    count = omega (arith, ready .some, ap (λ (s : State (List Entry)). s .cpu .regs .count) (h .same));
+    count = omega (arith, ready .some, ap (λ (s : State Kept). s .cpu .regs .count) (h .same));
     size = n;
     same = λ ks e.
         run-on ks left (left - 1) (stateOf c m con l) (omega (arith, ready .some)) (ready .running)
-        ∙ ap (λ (q : Next). reached ks (left - 1) (stepBy buffered q (stateOf c m con l) .state)) e
-        ∙ ap (reached ks (left - 1)) (sym (h .same));
+        ∙ ap (λ (q : Next). endOf ks (left - 1) (stepBy translator q (stateOf c m con l) .state)) e
+        ∙ ap (endOf ks (left - 1)) (sym (h .same));
   }
 
   module _ {n : ℕ} (q : n ≡ quietSteps k c left) (some : 0 < n) {b : Done} {m′ l′ : List ℕ} (h : InstructionsEnd c (c .regs .count + n) m l b m′ l′) where
@@ -83,13 +81,13 @@ module _ (c : Cpu) (left : ℕ) (k : Next) {m l : List ℕ} (ready : Ready c lef
           count = omega (arith, ap (λ (y : Cpu). y .regs .count) f, h .all e .0, fits);
           size = z;
           same = λ ks u.
-              ap (λ (i : ℕ). reached ks i (stateOf c m con l)) (omega (arith, fits))
+              ap (λ (i : ℕ). endOf ks i (stateOf c m con l)) (omega (arith, fits))
               ∙ h .all e .1 ks (left - n) con (ready .running) (quiet-for c left k q some ks u)
-              ∙ ap (λ (y : Cpu). reached ks (left - n) (stateOf y m′ con l′)) (sym f);
+              ∙ ap (λ (y : Cpu). endOf ks (left - n) (stateOf y m′ con l′)) (sym f);
         }
 
     -- up to an instruction that does not end well, and the rest of its step
-    pub advance-early : {con : List ℕ} {y x : Cpu} {m″ con″ l″ : List ℕ} → (b .end ≡ Ok → ⊥) → y ≡ afterQuiet c (counted (b .regs))
+    pub advance-early : {con : List ℕ} {y x : Cpu} {m″ con″ l″ : List ℕ} → (b .end ≡ Ok → ⊥) → y ≡ afterQuiet c (raiseCount (b .regs))
         → length m′ ≡ length m → Finishes (settleTree (length m′) (length con) y (outOf b)) y m′ con l′ x m″ con″ l″
         → length m″ ≡ length m′
         → Advances c left k m con l (record { cpu = x; left = left - (b .regs .count - c .regs .count) - 1 }) m″ con″ l″
@@ -97,21 +95,21 @@ module _ (c : Cpu) (left : ℕ) (k : Next) {m l : List ℕ} (ready : Ready c lef
     advance-early {con} {y} {x} {m″} {con″} {l″} e f z s w =
         let fits = few c left k q in
         let below = h .early e .0 in
-        let after = afterQuiet c (counted (b .regs)) in
-        let rest : stateOf x m″ con″ l″ ≡ settled (length m) after con (result (outOf b) m′ (held l′)) =
+        let after = afterQuiet c (raiseCount (b .regs)) in
+        let rest : stateOf x m″ con″ l″ ≡ settled (length m) after con (result (outOf b) m′ (keptIn l′)) =
         s .same
-        ∙ ap (λ (i : ℕ). settled i y con (result (outOf b) m′ (held l′))) z
-        ∙ ap (λ (v : Cpu). settled (length m) v con (result (outOf b) m′ (held l′))) f in
+        ∙ ap (λ (i : ℕ). settled i y con (result (outOf b) m′ (keptIn l′))) z
+        ∙ ap (λ (v : Cpu). settled (length m) v con (result (outOf b) m′ (keptIn l′))) f in
         let count : x .regs .count ≡ b .regs .count + 1 =
-        ap (λ (v : State (List Entry)). v .cpu .regs .count) rest ∙ settled-count (length m) after con m′ (held l′) (outOf b) in
+        ap (λ (v : State Kept). v .cpu .regs .count) rest ∙ settled-count (length m) after con m′ (keptIn l′) (outOf b) in
         record {
           good = s .good;
           less = omega (arith, ready .some);
           count = omega (arith, count, below, fits, h .later);
           size = w ∙ z;
           same = λ ks u.
-              ap (λ (i : ℕ). reached ks i (stateOf c m con l)) (omega (arith, fits))
+              ap (λ (i : ℕ). endOf ks i (stateOf c m con l)) (omega (arith, fits))
               ∙ h .early e .1 ks (left - n) con (ready .running) (quiet-for c left k q some ks u)
-              ∙ ap (λ (i : ℕ). reached ks i (settled (length m) after con (result (outOf b) m′ (held l′)))) (omega (arith, below, fits, h .later))
-              ∙ ap (reached ks (left - (b .regs .count - c .regs .count) - 1)) (sym rest);
+              ∙ ap (λ (i : ℕ). endOf ks i (settled (length m) after con (result (outOf b) m′ (keptIn l′)))) (omega (arith, below, fits, h .later))
+              ∙ ap (endOf ks (left - (b .regs .count - c .regs .count) - 1)) (sym rest);
         }

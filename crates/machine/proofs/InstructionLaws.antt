@@ -10,10 +10,8 @@ use types.Run.{OneOf}
 use denote.Enum.Declared as Declared
 use Rattle.paging.specs.declared.Entry.{Entry}
 use Rattle.paging.specs.declared.Space.{Space}
-use Rattle.paging.specs.Translate.{buffered}
-use Rattle.buffer.specs.Held.{held}
 use Rattle.mmu.specs.Good.{Good}
-use Rattle.mmu.specs.State.{state as result}
+use Rattle.mmu.specs.Translates.{Kept, state as result, keptIn, translator}
 use Rattle.rules.specs.declared.Regs.{Regs}
 use Rattle.rules.specs.declared.Cpu.{Cpu}
 use Rattle.rules.specs.declared.Key.{Key}
@@ -28,11 +26,11 @@ use Rattle.outcome.proofs.End.{the-type as End·type}
 use Rattle.outcome.specs.declared.End.{End}
 use Rattle.outcome.specs.declared.End.the-variants.{Ok}
 use Rattle.outcome.specs.declared.Done.{Done}
-use Rattle.outcome.specs.Contract.{ok, bad, outBy, outOf, made, stateOf, Executes}
+use Rattle.outcome.specs.Contract.{ok, bad, outBy, outOf, made, stateOf, Executes, endOf}
 use Rattle.clock.specs.Quiet.{Quiet, afterQuiet}
 use Rattle.clock.proofs.QuietSteps.{after-none}
 use Rattle.machine.specs.Settled.{settled}
-use Rattle.machine.specs.Instructions.{counted, instructionFrom, reached, InstructionsEnd, InstructionsMade}
+use Rattle.machine.specs.Instructions.{raiseCount, instructionFrom, InstructionsEnd, InstructionsMade}
 use Rattle.machine.proofs.SettledLaws.{settled-ok, settled-count, by-end}
 use Rattle.machine.proofs.QuietStep.{run-on, step-quiet}
 
@@ -56,31 +54,31 @@ module _ (c : Cpu) (limit : ℕ) (m l : List ℕ) where
     within = h;
     none = λ _. (refl, (refl, refl));
     first = λ e. absurd (omega (arith, e));
-    same = λ ks n con _ _. ap (λ (x : Cpu). reached ks (n + (limit - c .regs .count)) (stateOf x m con l)) (sym (after-none c));
+    same = λ ks n con _ _. ap (λ (x : Cpu). endOf ks (n + (limit - c .regs .count)) (stateOf x m con l)) (sym (after-none c));
   }
 
   module _ {r : Regs} {m′ l′ : List ℕ} (b : InstructionsMade c limit m l r m′ l′) where
     module _ (below : r .count < limit) {d : Done} {m″ l″ : List ℕ} (size : length m″ ≡ length m′)
-        (h : Executes (instructionTree (counted r)) (c .space) (c .system .user) [] m′ l′ d m″ l″) where
+        (h : Executes (instructionTree (raiseCount r)) (c .space) (c .system .user) [] m′ l′ d m″ l″) where
       -- one step more
       one-more : (ks : List Key) (n : ℕ) (con : List ℕ) → c .stop ≡ Running → Quiet (nextOf ks (c .clock .taken)) c limit
-          → reached ks (n + (limit - c .regs .count)) (stateOf c m con l)
-          ≡ reached ks (n + (limit - (r .count + 1))) (settled (length m) (afterQuiet c (counted r)) con (result (outOf d) m″ (held l″)))
+          → endOf ks (n + (limit - c .regs .count)) (stateOf c m con l)
+          ≡ endOf ks (n + (limit - (r .count + 1))) (settled (length m) (afterQuiet c (raiseCount r)) con (result (outOf d) m″ (keptIn l″)))
       unfolding step
       one-more ks n con runs quiet =
           let rest = n + (limit - (r .count + 1)) in
           b .same ks n con runs quiet
           ∙ run-on ks (n + (limit - r .count)) rest (stateOf (afterQuiet c r) m′ con l′) (omega arith) runs
-          ∙ ap (reached ks rest) (step-quiet (nextOf ks (c .clock .taken)) c limit quiet r (b .later) below con h)
-          ∙ ap (λ (size : ℕ). reached ks rest (settled size (afterQuiet c (counted r)) con (result (outOf d) m″ (held l″)))) (b .size)
+          ∙ ap (endOf ks rest) (step-quiet (nextOf ks (c .clock .taken)) c limit quiet r (b .later) below con h)
+          ∙ ap (λ (size : ℕ). endOf ks rest (settled size (afterQuiet c (raiseCount r)) con (result (outOf d) m″ (keptIn l″)))) (b .size)
 
       -- the first step's instruction
       alone : r .count ≡ c .regs .count → (x : Cpu) (con : List ℕ)
-          → settled (length m) x con (result (outOf d) m″ (held l″)) ≡ settled (length m) x con (instructionFrom c m l)
+          → settled (length m) x con (result (outOf d) m″ (keptIn l″)) ≡ settled (length m) x con (instructionFrom c m l)
       alone e x con =
           let z = b .none e in
-          let from : Regs → List ℕ → List ℕ → State (List Entry) = λ q v w.
-          settled (length m) x con (made (interpret buffered (c .space) (c .system .user) (instructionTree (counted q)) v (held w) [])) in
+          let from : Regs → List ℕ → List ℕ → State Kept = λ q v w.
+          settled (length m) x con (made (interpret translator (c .space) (c .system .user) (instructionTree (raiseCount q)) v (keptIn w) [])) in
           ap (settled (length m) x con) (h .same)
           ∙ ap (λ (q : Regs). from q m′ l′) (z .0)
           ∙ ap (λ (v : List ℕ). from (c .regs) v l′) (z .1 .0)
@@ -95,12 +93,12 @@ module _ (c : Cpu) (limit : ℕ) (m l : List ℕ) where
         within = omega (arith, below);
         none = λ q. absurd (omega (arith, q, b .later));
         first = λ q x con.
-            settled-count (length m) x con (r .count + 1) (d .regs) m″ (held l″)
-            ∙ ap (λ (y : End). settled (length m) x con (result (outBy (d .regs) y) m″ (held l″))) (sym e)
+            settled-count (length m) x con (r .count + 1) (d .regs) m″ (keptIn l″)
+            ∙ ap (λ (y : End). settled (length m) x con (result (outBy (d .regs) y) m″ (keptIn l″))) (sym e)
             ∙ alone (omega (arith, q)) x con;
         same = λ ks n con runs quiet.
             one-more ks n con runs quiet
-            ∙ ap (reached ks (n + (limit - (r .count + 1)))) (settled-ok (length m) (afterQuiet c (counted r)) con d m″ (held l″) e);
+            ∙ ap (endOf ks (n + (limit - (r .count + 1)))) (settled-ok (length m) (afterQuiet c (raiseCount r)) con d m″ (keptIn l″) e);
       }
 
       -- it did not
@@ -109,14 +107,14 @@ module _ (c : Cpu) (limit : ℕ) (m l : List ℕ) where
         good = h .good;
         later = b .later;
         first = λ q x con.
-            ap (λ (o : Out). settled (length m) x con (result o m″ (held l″))) (by-end r (d .regs) (d .end) n)
+            ap (λ (o : Out). settled (length m) x con (result o m″ (keptIn l″))) (by-end r (d .regs) (d .end) n)
             ∙ alone (omega (arith, q, below, b .later)) x con;
         all = λ e. absurd (n e);
         early = λ _. (
           below,
           λ ks i con runs quiet.
               one-more ks i con runs quiet
-              ∙ ap (λ (o : Out). reached ks (i + (limit - (r .count + 1))) (settled (length m) (afterQuiet c (counted r)) con (result o m″ (held l″))))
+              ∙ ap (λ (o : Out). endOf ks (i + (limit - (r .count + 1))) (settled (length m) (afterQuiet c (raiseCount r)) con (result o m″ (keptIn l″))))
               (by-end (d .regs) r (d .end) n),
         );
       }
@@ -129,7 +127,7 @@ module _ (c : Cpu) (limit : ℕ) (m l : List ℕ) where
           good = b .good;
           later = b .later;
           first = λ q x con. b .first (omega (arith, e, q)) x con;
-          all = λ _. (e, λ ks n con runs quiet. b .same ks n con runs quiet ∙ ap (λ (i : ℕ). reached ks i (stateOf (afterQuiet c r) m′ con l′)) (omega (arith, e)));
+          all = λ _. (e, λ ks n con runs quiet. b .same ks n con runs quiet ∙ ap (λ (i : ℕ). endOf ks i (stateOf (afterQuiet c r) m′ con l′)) (omega (arith, e)));
           early = λ n. absurd (n refl);
         }
 
@@ -154,6 +152,6 @@ module _ (s : Regs) (user : Bool) (space : Space) (limit : ℕ) (m l : List ℕ)
       (instructions-start c limit m l (good-beside (sym v) g) (omega (arith, h, ap (λ (r : Regs). r .count) e)))
 
   pub from-go : {r : Regs} {m′ l′ : List ℕ} → MadeFrom s user space limit m l r m′ l′ → r .count < limit → {d : Done} {m″ l″ : List ℕ}
-      → length m″ ≡ length m′ → Executes (instructionTree (counted r)) space user [] m′ l′ d m″ l″ → d .end ≡ Ok
+      → length m″ ≡ length m′ → Executes (instructionTree (raiseCount r)) space user [] m′ l′ d m″ l″ → d .end ≡ Ok
       → MadeFrom s user space limit m l (withCount (r .count + 1) (d .regs)) m″ l″
   from-go b below size h told = λ c e u v. instructions-go c limit m l (b c e u v) below size (executes-beside u v h) told

@@ -7,9 +7,7 @@ use mathlib.Core.Path.{_≡_, sym, ap, _∙_}
 use lib.ListN.{length}
 use Rattle.word.specs.Word.{if_then_else_}
 use Rattle.paging.specs.declared.Entry.{Entry}
-use Rattle.paging.specs.Translate.{buffered}
-use Rattle.buffer.specs.Held.{held}
-use Rattle.mmu.specs.State.{state as result}
+use Rattle.mmu.specs.Translates.{Kept, state as result, keptIn, translator}
 use Rattle.rules.specs.declared.Regs.{Regs}
 use Rattle.rules.specs.declared.Cpu.{Cpu}
 use Rattle.rules.specs.declared.Key.{Key}
@@ -24,36 +22,36 @@ use Rattle.rules.specs.Clock.{ticked}
 use Rattle.rules.specs.Step.{State, Stepped, settleTree, dueTree, stepTree, finished, steppedBy, stepBy, step}
 use Rattle.rules.specs.Run.{stepsOf, lastOf}
 use Rattle.outcome.specs.declared.Done.{Done}
-use Rattle.outcome.specs.Contract.{outOf, stateOf, Executes}
+use Rattle.outcome.specs.Contract.{outOf, stateOf, Executes, endOf}
 use Rattle.clock.specs.Quiet.{Quiet, afterQuiet}
 use Rattle.clock.proofs.QuietSteps.{quiet-due, quiet-ticked}
 use Rattle.machine.specs.Settled.{settled}
-use Rattle.machine.specs.Instructions.{counted, reached}
+use Rattle.machine.specs.Instructions.{raiseCount}
 use Rattle.machine.proofs.SettledLaws.{settled-law}
 
 -- a run goes on by a step
-pub run-on : (ks : List Key) (n n′ : ℕ) (s : State (List Entry)) → n ≡ suc n′ → s .cpu .stop ≡ Running
-    → reached ks n s ≡ reached ks n′ (step buffered ks s .state)
+pub run-on : (ks : List Key) (n n′ : ℕ) (s : State Kept) → n ≡ suc n′ → s .cpu .stop ≡ Running
+    → endOf ks n s ≡ endOf ks n′ (step translator ks s .state)
 unfolding stepsOf lastOf
-run-on ks n n′ s e h = ap (λ (i : ℕ). lastOf s (stepsOf buffered ks i s)) e ∙ ap (λ (x : Stop). lastOf s (if isRunning x then ts else [])) h
+run-on ks n n′ s e h = ap (λ (i : ℕ). lastOf s (stepsOf translator ks i s)) e ∙ ap (λ (x : Stop). lastOf s (if isRunning x then ts else [])) h
   where
     ts : List (Stepped (List Entry))
-    ts = step buffered ks s ∷ stepsOf buffered ks n′ (step buffered ks s .state)
+    ts = step translator ks s ∷ stepsOf translator ks n′ (step translator ks s .state)
 
 module _ (k : Next) (c : Cpu) (limit : ℕ) (q : Quiet k c limit) (r : Regs) (later : c .regs .count ≤ r .count)
     (below : r .count < limit) (con : List ℕ) where
   -- the end of a step's tree
-  at : List ℕ → List ℕ → Tree Final → State (List Entry)
-  at m l t = finished buffered (r .count + 1) (c .space) (c .written) con (interpret buffered (c .space) (c .system .user) t m (held l) [])
+  at : List ℕ → List ℕ → Tree Final → State Kept
+  at m l t = finished translator (r .count + 1) (c .space) (c .written) con (interpret translator (c .space) (c .system .user) t m (keptIn l) [])
 
   -- such a step
-  pub step-quiet : {m l m′ l′ : List ℕ} {d : Done} → Executes (instructionTree (counted r)) (c .space) (c .system .user) [] m l d m′ l′
-      → stepBy buffered k (stateOf (afterQuiet c r) m con l) .state ≡ settled (length m) (afterQuiet c (counted r)) con (result (outOf d) m′ (held l′))
+  pub step-quiet : {m l m′ l′ : List ℕ} {d : Done} → Executes (instructionTree (raiseCount r)) (c .space) (c .system .user) [] m l d m′ l′
+      → stepBy translator k (stateOf (afterQuiet c r) m con l) .state ≡ settled (length m) (afterQuiet c (raiseCount r)) con (result (outOf d) m′ (keptIn l′))
   unfolding stepBy stepTree steppedBy dueTree at
   step-quiet {m} {l} {m′} {l′} {d} h =
-      let x = afterQuiet c (counted r) in
+      let x = afterQuiet c (raiseCount r) in
       ap (λ (o : Option ℕ). at m l (dueTree o (length m) (length con) (ticked k (afterQuiet c r)))) (quiet-due k c limit q r later below)
       ∙ ap (λ (y : Cpu). at m l (dueTree none (length m) (length con) y)) (quiet-ticked k c limit q r later below)
-      ∙ ap (λ (w : Bool). at m l (if w then ended x else bind (instructionTree (counted r)) (settleTree (length m) (length con) x))) (q .awake)
-      ∙ settled-law (length m) x con (instructionTree (counted r)) m (held l)
+      ∙ ap (λ (w : Bool). at m l (if w then ended x else bind (instructionTree (raiseCount r)) (settleTree (length m) (length con) x))) (q .awake)
+      ∙ settled-law (length m) x con (instructionTree (raiseCount r)) m (keptIn l)
       ∙ ap (settled (length m) x con) (sym (h .same))

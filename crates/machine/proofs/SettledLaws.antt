@@ -4,8 +4,7 @@ use mathlib.Core.List.{List, []}
 use mathlib.Core.Path.{_≡_, refl, ap}
 use lib.ListN.{length}
 use Rattle.paging.specs.declared.Entry.{Entry}
-use Rattle.paging.specs.Translate.{buffered}
-use Rattle.mmu.specs.State.{state as result}
+use Rattle.mmu.specs.Translates.{state as result, translator}
 use Rattle.rules.specs.declared.Regs.{Regs}
 use Rattle.rules.specs.declared.Cpu.{Cpu}
 use Rattle.rules.specs.Record.{withCount, withRegs}
@@ -21,8 +20,8 @@ use Rattle.machine.proofs.SettleLaw.{settle-law}
 
 -- an instruction's tree, and the rest of its step
 pub settled-law : (size : ℕ) (x : Cpu) (con : List ℕ) (t : Tree Out) (m : List ℕ) (es : List Entry)
-    → finished buffered (x .regs .count) (x .space) (x .written) con (interpret buffered (x .space) (x .system .user) (bind t (settleTree size (length con) x)) m es [])
-    ≡ settled size x con (made (interpret buffered (x .space) (x .system .user) t m es []))
+    → finished translator (x .regs .count) (x .space) (x .written) con (interpret translator (x .space) (x .system .user) (bind t (settleTree size (length con) x)) m es [])
+    ≡ settled size x con (made (interpret translator (x .space) (x .system .user) t m es []))
 unfolding settled
 settled-law size x con t m es = settle-law size (length con) x con t m es
 
@@ -32,8 +31,8 @@ pub settled-ok : (size : ℕ) (x : Cpu) (con : List ℕ) (d : Done) (m : List �
 unfolding settled settleTree interpret finished storeAll
 settled-ok size x con d m es e =
     ap (λ (y : End).
-    finished buffered (x .regs .count) (x .space) (x .written) con
-    (interpret buffered (x .space) (x .system .user) (settleTree size (length con) x (outBy (d .regs) y)) m es [])) e
+    finished translator (x .regs .count) (x .space) (x .written) con
+    (interpret translator (x .space) (x .system .user) (settleTree size (length con) x (outBy (d .regs) y)) m es [])) e
 
 -- the step count is the record's
 pub settled-count : (size : ℕ) (x : Cpu) (con : List ℕ) (n : ℕ) (r : Regs) (m : List ℕ) (es : List Entry)

@@ -12,19 +12,19 @@ use Rattle.outcome.specs.declared.End.the-variants.{Trap, Refused}
 use Rattle.outcome.specs.Contract.{outBy, outOf, Finishes}
 use Rattle.system.proofs.Choices.{at-next}
 
-module _ (size room : ℕ) (c : Cpu) (d : Done) {m con l : List ℕ} {x : Cpu} {m′ con′ l′ : List ℕ} where
+module _ (size consoleSize : ℕ) (c : Cpu) (d : Done) {m con l : List ℕ} {x : Cpu} {m′ con′ l′ : List ℕ} where
   -- by how the instruction ended
-  pub settle-at : {e : End} → d .end ≡ e → Finishes (settleTree size room c (outBy (d .regs) e)) c m con l x m′ con′ l′
-      → Finishes (settleTree size room c (outOf d)) c m con l x m′ con′ l′
-  settle-at q h = subst (λ z. Finishes (settleTree size room c (outBy (d .regs) z)) c m con l x m′ con′ l′) (sym q) h
+  pub settle-at : {e : End} → d .end ≡ e → Finishes (settleTree size consoleSize c (outBy (d .regs) e)) c m con l x m′ con′ l′
+      → Finishes (settleTree size consoleSize c (outOf d)) c m con l x m′ con′ l′
+  settle-at q h = subst (λ z. Finishes (settleTree size consoleSize c (outBy (d .regs) z)) c m con l x m′ con′ l′) (sym q) h
 
   -- "The pc stored is the next instruction's for faults in execution and TRAP"
   pub settle-trap : {code n : ℕ} → d .end ≡ Trap code → n ≡ nextPc c → Finishes (trapTree c code n) c m con l x m′ con′ l′
-      → Finishes (settleTree size room c (outOf d)) c m con l x m′ con′ l′
+      → Finishes (settleTree size consoleSize c (outOf d)) c m con l x m′ con′ l′
   unfolding settleTree
   settle-trap {code} q p h = settle-at q (at-next (trapTree c code) c p h)
 
   pub settle-refused : {f : Fault} {n : ℕ} → d .end ≡ Refused f → n ≡ nextPc c → Finishes (faultTree c f n) c m con l x m′ con′ l′
-      → Finishes (settleTree size room c (outOf d)) c m con l x m′ con′ l′
+      → Finishes (settleTree size consoleSize c (outOf d)) c m con l x m′ con′ l′
   unfolding settleTree
   settle-refused {f} q p h = settle-at q (at-next (faultTree c f) c p h)

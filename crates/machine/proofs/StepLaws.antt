@@ -6,10 +6,8 @@ use mathlib.Core.List.{List, []}
 use mathlib.Core.Path.{_≡_, refl, sym, ap, _∙_, subst}
 use lib.ListN.{length}
 use Rattle.word.specs.Word.{if_then_else_}
-use Rattle.paging.specs.Translate.{buffered}
-use Rattle.buffer.specs.Held.{held}
 use Rattle.mmu.specs.Good.{Good}
-use Rattle.mmu.specs.State.{state as result}
+use Rattle.mmu.specs.Translates.{state as result, keptIn, translator}
 use Rattle.rules.specs.declared.Cpu.{Cpu}
 use Rattle.rules.specs.declared.Next.{Next}
 use Rattle.rules.specs.Tree.{bind, interpret}
@@ -98,13 +96,13 @@ module _ (k : Next) (c : Cpu) {d : Due} (e : d ≡ dueAs (dueOf k c)) {t : Cpu} 
   unfolding dueTree settled ticked
   step-executes {b} {m′} {l′} {x} {m″} {con″} {l″} q w n h s =
       let tree = bind (instructionTree (t .regs)) (settleTree (length m) (length con) t) in
-      let ran : stateOf x m″ con″ l″ ≡ settled (length m) t con (result (outOf b) m′ (held l′)) =
-      s .same ∙ ap (λ (i : ℕ). settled i t con (result (outOf b) m′ (held l′))) n in
+      let ran : stateOf x m″ con″ l″ ≡ settled (length m) t con (result (outOf b) m′ (keptIn l′)) =
+      s .same ∙ ap (λ (i : ℕ). settled i t con (result (outOf b) m′ (keptIn l′))) n in
       let whole : stateOf x m″ con″ l″
-      ≡ finished buffered (t .regs .count) (t .space) (t .written) con (interpret buffered (t .space) (t .system .user) tree m (held l) []) =
+      ≡ finished translator (t .regs .count) (t .space) (t .written) con (interpret translator (t .space) (t .system .user) tree m (keptIn l) []) =
       ran
       ∙ h .first refl t con
-      ∙ ap (λ (y : Cpu). settled (length m) t con (made (interpret buffered (y .space) (y .system .user) (instructionTree (y .regs)) m (held l) []))) (sym f)
-      ∙ sym (settled-law (length m) t con (instructionTree (t .regs)) m (held l)) in
+      ∙ ap (λ (y : Cpu). settled (length m) t con (made (interpret translator (y .space) (y .system .user) (instructionTree (y .regs)) m (keptIn l) []))) (sym f)
+      ∙ sym (settled-law (length m) t con (instructionTree (t .regs)) m (keptIn l)) in
       by-due none (due-nothing k c e q)
       (subst (λ (b : Bool). Finishes (if b then ended t else tree) t m con l x m″ con″ l″) (sym w) (record { same = whole; good = s .good }))

@@ -4,10 +4,8 @@ use mathlib.Core.Path.{_≡_}
 use mathlib.Core.List.{List, []}
 use lib.ListN.{length}
 use Rattle.paging.specs.declared.Entry.{Entry}
-use Rattle.paging.specs.Translate.{buffered}
-use Rattle.buffer.specs.Held.{held}
 use Rattle.mmu.specs.Good.{Good}
-use Rattle.mmu.specs.State.{State as Result, state as result}
+use Rattle.mmu.specs.Translates.{Kept, Result, result, keptIn, translator}
 use Rattle.rules.specs.declared.Regs.{Regs}
 use Rattle.rules.specs.declared.Cpu.{Cpu}
 use Rattle.rules.specs.declared.Key.{Key}
@@ -21,21 +19,17 @@ use Rattle.rules.specs.Step.{State}
 use Rattle.rules.specs.Run.{stepsOf, lastOf}
 use Rattle.outcome.specs.declared.Done.{Done}
 use Rattle.outcome.specs.declared.End.the-variants.{Ok}
-use Rattle.outcome.specs.Contract.{ok, outOf, made, stateOf}
+use Rattle.outcome.specs.Contract.{ok, outOf, made, stateOf, endOf}
 use Rattle.clock.specs.Quiet.{Quiet, afterQuiet}
 use Rattle.machine.specs.Settled.{settled}
 
 -- "Step count rises by 1"
-abbrev pub counted : Regs → Regs
-counted r = withCount (r .count + 1) r
+abbrev pub raiseCount : Regs → Regs
+raiseCount r = withCount (r .count + 1) r
 
 -- the instruction of the step from c
 abbrev pub instructionFrom : Cpu → (m l : List ℕ) → Result Out
-instructionFrom c m l = made (interpret buffered (c .space) (c .system .user) (instructionTree (counted (c .regs))) m (held l) [])
-
--- the state in which a run of at most n steps from s ends
-abbrev pub reached : List Key → ℕ → State (List Entry) → State (List Entry)
-reached ks n s = lastOf s (stepsOf buffered ks n s)
+instructionFrom c m l = made (interpret translator (c .space) (c .system .user) (instructionTree (raiseCount (c .regs))) m (keptIn l) [])
 
 -- from c, memory m and buffer l, instructions up to the step count `limit` ended as b says, with memory m′ and buffer l′
 pub record InstructionsEnd (c : Cpu) (limit : ℕ) (m l : List ℕ) (b : Done) (m′ l′ : List ℕ) : Type 0 where
@@ -43,16 +37,16 @@ pub record InstructionsEnd (c : Cpu) (limit : ℕ) (m l : List ℕ) (b : Done) (
   pub later : c .regs .count ≤ b .regs .count
   -- a limit of one step: it is that step's instruction, whatever is due
   pub first : limit ≡ c .regs .count + 1 → (x : Cpu) (con : List ℕ)
-      → settled (length m) x con (result (outOf b) m′ (held l′)) ≡ settled (length m) x con (instructionFrom c m l)
+      → settled (length m) x con (result (outOf b) m′ (keptIn l′)) ≡ settled (length m) x con (instructionFrom c m l)
   -- all ended well: all steps up to the limit are made
   pub all : b .end ≡ Ok → (b .regs .count ≡ limit)
       × ((ks : List Key) (n : ℕ) (con : List ℕ) → c .stop ≡ Running → Quiet (nextOf ks (c .clock .taken)) c limit
-      → reached ks (n + (limit - c .regs .count)) (stateOf c m con l) ≡ reached ks n (stateOf (afterQuiet c (b .regs)) m′ con l′))
+      → endOf ks (n + (limit - c .regs .count)) (stateOf c m con l) ≡ endOf ks n (stateOf (afterQuiet c (b .regs)) m′ con l′))
   -- one did not: it is under way, and those before it are made
   pub early : (b .end ≡ Ok → ⊥) → (b .regs .count < limit)
       × ((ks : List Key) (n : ℕ) (con : List ℕ) → c .stop ≡ Running → Quiet (nextOf ks (c .clock .taken)) c limit
-      → reached ks (n + (limit - c .regs .count)) (stateOf c m con l)
-      ≡ reached ks (n + (limit - (b .regs .count + 1))) (settled (length m) (afterQuiet c (counted (b .regs))) con (result (outOf b) m′ (held l′))))
+      → endOf ks (n + (limit - c .regs .count)) (stateOf c m con l)
+      ≡ endOf ks (n + (limit - (b .regs .count + 1))) (settled (length m) (afterQuiet c (raiseCount (b .regs))) con (result (outOf b) m′ (keptIn l′))))
 
 -- the same on the way: all steps up to the step count of r are made
 pub record InstructionsMade (c : Cpu) (limit : ℕ) (m l : List ℕ) (r : Regs) (m′ l′ : List ℕ) : Type 0 where
@@ -62,6 +56,6 @@ pub record InstructionsMade (c : Cpu) (limit : ℕ) (m l : List ℕ) (r : Regs) 
   pub within : r .count ≤ limit
   pub none : r .count ≡ c .regs .count → (r ≡ c .regs) × ((m′ ≡ m) × (l′ ≡ l))
   pub first : r .count ≡ c .regs .count + 1 → (x : Cpu) (con : List ℕ)
-      → settled (length m) x con (result (outOf (ok r)) m′ (held l′)) ≡ settled (length m) x con (instructionFrom c m l)
+      → settled (length m) x con (result (outOf (ok r)) m′ (keptIn l′)) ≡ settled (length m) x con (instructionFrom c m l)
   pub same : (ks : List Key) (n : ℕ) (con : List ℕ) → c .stop ≡ Running → Quiet (nextOf ks (c .clock .taken)) c limit
-      → reached ks (n + (limit - c .regs .count)) (stateOf c m con l) ≡ reached ks (n + (limit - r .count)) (stateOf (afterQuiet c r) m′ con l′)
+      → endOf ks (n + (limit - c .regs .count)) (stateOf c m con l) ≡ endOf ks (n + (limit - r .count)) (stateOf (afterQuiet c r) m′ con l′)

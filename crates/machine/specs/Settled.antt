@@ -3,16 +3,15 @@ use Prim.Native.Nat.{ℕ}
 use mathlib.Core.List.{List, []}
 use lib.ListN.{length}
 use Rattle.paging.specs.declared.Entry.{Entry}
-use Rattle.paging.specs.Translate.{buffered}
-use Rattle.mmu.specs.State.{State as Result}
+use Rattle.mmu.specs.Translates.{Kept, State as Result, translator}
 use Rattle.rules.specs.declared.Cpu.{Cpu}
 use Rattle.rules.specs.Tree.{interpret}
 use Rattle.rules.specs.Outcome.{Out}
 use Rattle.rules.specs.Step.{State, settleTree, finished}
 
 -- c is the record before the fetch, with the step counted; o is the instruction's answer, with memory and entries; size is the length of memory
-unfoldable pub settled : (size : ℕ) → Cpu → (con : List ℕ) → Result Out → State (List Entry)
+unfoldable pub settled : (size : ℕ) → Cpu → (con : List ℕ) → Result Out → State Kept
 unfolding settleTree finished
 settled size c con o =
-    finished buffered (c .regs .count) (c .space) (c .written) con
-    (interpret buffered (c .space) (c .system .user) (settleTree size (length con) c (o .answer)) (o .mem) (o .buffer) [])
+    finished translator (c .regs .count) (c .space) (c .written) con
+    (interpret translator (c .space) (c .system .user) (settleTree size (length con) c (o .answer)) (o .mem) (o .buffer) [])

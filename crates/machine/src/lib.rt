@@ -8,7 +8,7 @@ ghost use Rattle.rules.specs.Record.{withCount, withRegs};
 ghost use Rattle.rules.specs.Step.{awake as awakeOf, settleTree};
 ghost use Rattle.outcome.specs.Contract.{outOf, Finishes};
 ghost use Rattle.clock.specs.Due.{KeyFits};
-ghost use Rattle.machine.specs.Instructions.{counted as countedOf, InstructionsEnd};
+ghost use Rattle.machine.specs.Instructions.{raiseCount, InstructionsEnd};
 ghost use Rattle.machine.specs.Step.{Steps};
 ghost use Rattle.machine.specs.Advance.{Ready, Advances};
 use clock::Due;
@@ -20,7 +20,7 @@ use rules::Next;
 use rules::Regs;
 
 // A record on its way through a run, with the steps that are left.
-pub struct Going {
+pub struct Advanced {
     pub cpu: Cpu,
     pub left: u64,
 }
@@ -124,9 +124,9 @@ pub fn step(
 }
 
 // The step is counted.
-fn counted(r: Regs) -> Regs
+fn raise_count(r: Regs) -> Regs
     requires { ⌜ r .count + 1 < 2 ^ 64 ⌝ }
-    ensures { λ x. ⌜ x ≡ countedOf r ⌝ }
+    ensures { λ x. ⌜ x ≡ raiseCount r ⌝ }
 {
     let mut n = r;
     n.count = r.count + 1;
@@ -142,14 +142,14 @@ pub fn advance(
     console: &mut [u8],
     tlb: &mut [u64],
     hint: &mut [u8; 256],
-) -> Going
+) -> Advanced
     requires { ⌜ Ready c left (now mem) (now tlb) × KeyFits (k .some) (c .clock .taken) ⌝ }
     ensures { λ g. ⌜ Advances c left k (now (mem .entry)) (now (console .entry)) (now (tlb .entry)) g (now (mem .exit)) (now (console .exit)) (now (tlb .exit)) ⌝ }
 {
     let n = clock::quiet::steps(k, c, left);
     if n == 0 {
         let x = step(c, k, mem, console, tlb, hint);
-        return Going {
+        return Advanced {
             cpu: x,
             left: left - 1,
         };
@@ -158,15 +158,15 @@ pub fn advance(
     let r = b.regs;
     let e = b.end;
     let End::Ok = e else {
-        let y = clock::quiet::after(c, counted(r));
+        let y = clock::quiet::after(c, raise_count(r));
         let x = settle(y, b, mem, console, tlb, hint);
-        return Going {
+        return Advanced {
             cpu: x,
             left: left - (r.count - c.regs.count) - 1,
         };
     };
     let x = clock::quiet::after(c, r);
-    Going {
+    Advanced {
         cpu: x,
         left: left - n,
     }

@@ -21,7 +21,7 @@ use Rattle.paging.specs.Buffer.{hit, bufferOk}
 use Rattle.paging.specs.Translate.{pageOf, inFrame, denied, direct, answerOf, refilled, pagedBy, paged, translateBy}
 use Rattle.walk.proofs.Bounds.{FrameIn, frame-in}
 use Rattle.buffer.proofs.Entries.{buffer-entries, hit-below}
-use Rattle.mmu.specs.State.{request}
+use Rattle.mmu.specs.Translates.{request}
 
 -- an answer of s bytes lies in n bytes
 unfoldable pub Within : ℕ → ℕ → Answer → Type 0

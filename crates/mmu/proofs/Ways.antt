@@ -25,10 +25,10 @@ use Rattle.walk.specs.Found.{Walked, walked, foundBy, walkedBy}
 use Rattle.walk.proofs.Bounds.{FrameIn, frame-in}
 use Rattle.buffer.specs.declared.Hit.{Hit}
 use Rattle.buffer.specs.declared.Hit.the-variants.{Frame, Miss}
-use Rattle.buffer.specs.Held.{pageIn, frames, entry, unpack, held, indexOf, slotHit, Buffer}
+use Rattle.buffer.specs.Held.{pageIn, frames, entry, unpack, entriesIn, indexOf, slotHit, Buffer}
 use Rattle.buffer.proofs.Hits.{slot-frame, slot-miss}
 use Rattle.mmu.specs.Good.{Good}
-use Rattle.mmu.specs.State.{state, seen, Refills, Translates}
+use Rattle.mmu.specs.Translates.{result, seen, Refills, Translates}
 use Rattle.mmu.proofs.Laws.{translated}
 
 -- the page of a 32-bit address
@@ -75,16 +75,16 @@ kept-at es e {i} {p} k h = let s : pageIn e ≡ p = ap (λ (x : Entry). x .page)
 
 module _ (pdir : ℕ) (q : Request) (m l : List ℕ) (g : Good (length m) pdir l) (small : q .addr < 4294967296)
     {r : PageWalk} {m′ : List ℕ} (p : walked r m′ ≡ walkedBy (walk m pdir (q .addr / 4096) (q .kind) (q .user))) where
-  refill-by : state (answerFor q r) m′ (keptFor (q .addr / 4096) (held l) r) ≡ seen (pagedBy none pdir q m (held l))
+  refill-by : result (answerFor q r) m′ (keptFor (q .addr / 4096) (entriesIn l) r) ≡ seen (pagedBy none pdir q m (entriesIn l))
   unfolding pagedBy refilled walkedBy
   refill-by =
       let w = walk m pdir (q .addr / 4096) (q .kind) (q .user) in
       let f : r ≡ foundBy (w .found) = ap (λ (x : Walked). x .answer) p in
       let e : m′ ≡ w .mem = ap (λ (x : Walked). x .mem) p in
-      rw (page-is (q .addr) small, f, e, answer-found q (w .found), kept-found (q .addr / 4096) (held l) (w .found))
+      rw (page-is (q .addr) small, f, e, answer-found q (w .found), kept-found (q .addr / 4096) (entriesIn l) (w .found))
 
   pub refill-mapped : (e : ℕ) {f : ℕ} {u w : Bool} {at : ℕ} {l′ : List ℕ} → r ≡ Mapped f u w → unpack e ≡ entry (q .addr / 4096) f u w
-      → (held l′ ≡ keep (unpack e) (held l)) × Buffer l′ → at ≡ f * 4096 + cut (q .size) (q .addr) % 4096 → Refills pdir q m l (At at) m′ l′
+      → (entriesIn l′ ≡ keep (unpack e) (entriesIn l)) × Buffer l′ → at ≡ f * 4096 + cut (q .size) (q .addr) % 4096 → Refills pdir q m l (At at) m′ l′
   refill-mapped e d k h a = record { same = rw (h .0, k, a) (rw d at refill-by); buffer = h .1 }
 
   pub refill-faulted : {c : ℕ} {a : Answer} → r ≡ Faulted c → a ≡ denied c q → Refills pdir q m l a m′ l
@@ -97,15 +97,15 @@ module _ (s : Space) (q : Request) (m l : List ℕ) (g : Good (length m) (s .pdi
     pub translate-hit : {f at : ℕ} → h ≡ Frame f → at ≡ f * 4096 + cut (q .size) (q .addr) % 4096 → Translates s q m l (At at) m l
     unfolding translateBy paged pagedBy
     translate-hit {f} e a =
-        let z : hit (q .addr / 4096) (q .kind) (q .user) (held l) ≡ some f =
+        let z : hit (q .addr / 4096) (q .kind) (q .user) (entriesIn l) ≡ some f =
         slot-frame l i (q .addr / 4096) (q .kind) (q .user) (length m) (g .buffer) (g .entries) (sym p ∙ e) in
         record { same = rw (on, page-is (q .addr) small, z, a); good = g }
 
-    pub translate-miss : {a : Answer} {m′ l′ : List ℕ} → h ≡ Miss → i ≡ indexOf (q .addr / 4096) (held l) → Refills (s .pdir) q m l a m′ l′
+    pub translate-miss : {a : Answer} {m′ l′ : List ℕ} → h ≡ Miss → i ≡ indexOf (q .addr / 4096) (entriesIn l) → Refills (s .pdir) q m l a m′ l′
         → Translates s q m l a m′ l′
     unfolding translateBy paged
     translate-miss e j t =
-        let z : hit (q .addr / 4096) (q .kind) (q .user) (held l) ≡ none =
+        let z : hit (q .addr / 4096) (q .kind) (q .user) (entriesIn l) ≡ none =
         slot-miss l i (q .addr / 4096) (q .kind) (q .user) (length m) (g .buffer) (g .entries) j (sym p ∙ e) in
         translated g q (rw (on, page-is (q .addr) small, z) (t .same)) (t .buffer)
 

@@ -5,9 +5,9 @@ ghost use lib.ListN.{length};
 ghost use Rattle.word.specs.Word.{cut};
 ghost use Rattle.memory.specs.Memory.{bytes};
 ghost use Rattle.paging.specs.declared.Answer.the-variants.{Denied};
-ghost use Rattle.buffer.specs.Held.{held, indexOf};
+ghost use Rattle.buffer.specs.Held.{entriesIn, indexOf};
 ghost use Rattle.mmu.specs.Good.{Good};
-ghost use Rattle.mmu.specs.State.{request, spaceOf, Refills, Translates};
+ghost use Rattle.mmu.specs.Translates.{request, spaceOf, Refills, Translates};
 use buffer::Hit;
 use memory::Size;
 use paging::Access;
@@ -55,7 +55,7 @@ fn refill(
     user: bool,
     i: usize,
 ) -> Answer
-    requires { ⌜ Good (length (now mem)) pdir (now tlb) × (i ≡ indexOf (addr / 4096) (held (now tlb))) ⌝ }
+    requires { ⌜ Good (length (now mem)) pdir (now tlb) × (i ≡ indexOf (addr / 4096) (entriesIn (now tlb))) ⌝ }
     ensures { λ r. ⌜ Refills pdir (request kind size addr user) (now (mem .entry)) (now (tlb .entry)) r (now (mem .exit)) (now (tlb .exit)) ⌝ }
 {
     let page = addr / 4096;

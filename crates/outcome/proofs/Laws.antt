@@ -16,7 +16,7 @@ use Rattle.paging.specs.declared.Fault.{Fault}
 use Rattle.paging.specs.declared.Space.{Space}
 use Rattle.paging.specs.Walk.{isWrite}
 use Rattle.mmu.specs.Good.{Good}
-use Rattle.mmu.specs.State.{Translates}
+use Rattle.mmu.specs.Translates.{Translates}
 use Rattle.rules.specs.declared.Regs.{Regs}
 use Rattle.rules.specs.Tree.{access, Reply, got, denied, Tree, ask, done, Grant, grant, requested, replyTo, storeAll, interpret}
 use Rattle.rules.specs.Outcome.{Out, fine, unfetched, trap, refused, system, orRefused, reading, writing}

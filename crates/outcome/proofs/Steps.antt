@@ -13,22 +13,20 @@ use Rattle.paging.specs.declared.Entry.{Entry}
 use Rattle.paging.specs.declared.Fault.{Fault}
 use Rattle.paging.specs.declared.Space.{Space}
 use Rattle.paging.specs.Walk.{isWrite}
-use Rattle.paging.specs.Translate.{buffered}
-use Rattle.buffer.specs.Held.{held}
 use Rattle.mmu.specs.Good.{Good}
-use Rattle.mmu.specs.State.{Translates}
+use Rattle.mmu.specs.Translates.{Kept, Translates, keptIn, translator}
 use Rattle.rules.specs.declared.Cpu.{Cpu}
 use Rattle.rules.specs.Record.{withCount, withRegs, withSpace}
 use Rattle.rules.specs.Tree.{access, slots, Reply, got, denied, Tree, ask, Ended, slot, requested, replyTo, storeAll, interpret}
-use Rattle.rules.specs.Trap.{Effect, none, turn, deliver, print, Final, final, ended}
+use Rattle.rules.specs.Trap.{Effect, none, setSpace, deliver, print, Final, final, ended}
 use Rattle.rules.specs.Step.{State, spaceAfter, consoleAfter, bufferAfter, finished}
 use Rattle.outcome.specs.Contract.{faultOf, Finishes}
 use Rattle.outcome.proofs.Trees.{asked, slots-first, slots-second, slots-both}
 use Rattle.outcome.proofs.Laws.{fault-told}
 
 -- a tree's end, from the record k
-abbrev ending : Cpu → List ℕ → Ended (List Entry) Final → State (List Entry)
-ending k con e = finished buffered (k .regs .count) (k .space) (k .written) con e
+abbrev ending : Cpu → List ℕ → Ended (List Entry) Final → State Kept
+ending k con e = finished translator (k .regs .count) (k .space) (k .written) con e
 
 -- ---- ends
 
@@ -39,7 +37,7 @@ recordAfter k e c = withSpace (spaceAfter (k .space) e) (withRegs (withCount (k 
 module _ {k : Cpu} {m con l : List ℕ} {c x : Cpu} where
   -- an end with any effect
   pub finishes-final : {vs : List ℕ} {e : Effect} {con′ l′ : List ℕ} → x ≡ recordAfter k e c → con′ ≡ consoleAfter con (k .written) e
-      → held l′ ≡ bufferAfter buffered (held l) e → Good (length m) (x .space .pdir) l′ → Finishes (final c vs e) k m con l x m con′ l′
+      → keptIn l′ ≡ bufferAfter translator (keptIn l) e → Good (length m) (x .space .pdir) l′ → Finishes (final c vs e) k m con l x m con′ l′
   unfolding interpret finished storeAll
   finishes-final p q b g = record { same = rw (p, q, b); good = g }
 
@@ -49,10 +47,10 @@ module _ {k : Cpu} {m con l : List ℕ} {c x : Cpu} where
   finishes-ended p g = finishes-final p refl refl (rw p g)
 
   -- PDIR and SPAG
-  pub finishes-turned : {t : Space} {l′ : List ℕ} → x ≡ recordAfter k (turn t) c → held l′ ≡ [] → Good (length m) (t .pdir) l′
-      → Finishes (final c [] (turn t)) k m con l x m con l′
+  pub finishes-space : {t : Space} {l′ : List ℕ} → x ≡ recordAfter k (setSpace t) c → keptIn l′ ≡ [] → Good (length m) (t .pdir) l′
+      → Finishes (final c [] (setSpace t)) k m con l x m con l′
   unfolding finished
-  finishes-turned p b g = finishes-final p refl b (rw p g)
+  finishes-space p b g = finishes-final p refl b (rw p g)
 
   -- BOUT's byte
   pub finishes-printed : {b : ℕ} {con′ : List ℕ} → x ≡ recordAfter k (print b) c → con′ ≡ set con (k .written) b → Good (length m) (k .space .pdir) l

@@ -10,22 +10,21 @@ use Rattle.paging.specs.declared.Answer.the-variants.{At, Denied}
 use Rattle.paging.specs.declared.Fault.{Fault}
 use Rattle.paging.specs.declared.Space.{Space}
 use Rattle.paging.specs.Event.{Event}
-use Rattle.paging.specs.Translate.{Request, Translator, buffered}
-use Rattle.buffer.specs.Held.{held}
-use Rattle.mmu.specs.State.{Translates}
+use Rattle.paging.specs.Translate.{Request, Translator}
+use Rattle.mmu.specs.Translates.{Translates, keptIn, translator}
 use Rattle.rules.specs.Tree.{access, slots, Reply, got, denied, Tree, ask, done, bind, Grant, grant, slot, requested, replyTo, answered, Ended, after, interpret}
 
 -- the events of a translation
 abbrev pub eventsOf : Space → Request → List ℕ → List ℕ → List Event
-eventsOf s q m l = buffered .translate s q m (held l) .events
+eventsOf s q m l = translator .translate s q m (keptIn l) .events
 
 -- ---- an access
 
 module _ {A : Type 0} {s : Space} {user : Bool} {kind : Access} {n va : ℕ} {m l : List ℕ} {a : Answer} {m′ l′ : List ℕ}
     (t : Translates s (requested kind n va user) m l a m′ l′) (k : Reply → Tree A) (gs : List Grant) where
   -- the tree goes on with the code's answer, memory and buffer
-  pub asked : interpret buffered s user (ask (access kind n va) k) m (held l) gs
-      ≡ after (eventsOf s (requested kind n va user) m l) (interpret buffered s user (k (replyTo kind n m′ a .reply)) m′ (held l′) (replyTo kind n m′ a .grants ++ gs))
+  pub asked : interpret translator s user (ask (access kind n va) k) m (keptIn l) gs
+      ≡ after (eventsOf s (requested kind n va user) m l) (interpret translator s user (k (replyTo kind n m′ a .reply)) m′ (keptIn l′) (replyTo kind n m′ a .grants ++ gs))
   unfolding interpret answered
   asked = rw (ap (λ z. z .answer) (t .same), ap (λ z. z .mem) (t .same), ap (λ z. z .buffer) (t .same))
 
@@ -34,15 +33,15 @@ module _ {A : Type 0} {s : Space} {user : Bool} {kind : Access} {n va : ℕ} {m 
 module _ {A : Type 0} (s : Space) (user : Bool) (x y : ℕ) {m l : List ℕ} {a : Answer} {m′ l′ : List ℕ}
     (t : Translates s (slot x) m l a m′ l′) (k : Reply → Tree A) (gs : List Grant) where
   -- the first is denied
-  pub slots-first : {f : Fault} → a ≡ Denied f → interpret buffered s user (ask (slots x y) k) m (held l) gs
-      ≡ after (eventsOf s (slot x) m l) (interpret buffered s user (k (denied f)) m′ (held l′) gs)
+  pub slots-first : {f : Fault} → a ≡ Denied f → interpret translator s user (ask (slots x y) k) m (keptIn l) gs
+      ≡ after (eventsOf s (slot x) m l) (interpret translator s user (k (denied f)) m′ (keptIn l′) gs)
   unfolding interpret answered
   slots-first e = rw (← ap (λ z. z .answer) (t .same), ← ap (λ z. z .mem) (t .same), ← ap (λ z. z .buffer) (t .same), e)
 
   module _ {b : Answer} {m″ l″ : List ℕ} (u : Translates s (slot y) m′ l′ b m″ l″) {p : ℕ} (e : a ≡ At p) where
     -- the second is denied
-    pub slots-second : {f : Fault} → b ≡ Denied f → interpret buffered s user (ask (slots x y) k) m (held l) gs
-        ≡ after (eventsOf s (slot x) m l ++ eventsOf s (slot y) m′ l′) (interpret buffered s user (k (denied f)) m″ (held l″) gs)
+    pub slots-second : {f : Fault} → b ≡ Denied f → interpret translator s user (ask (slots x y) k) m (keptIn l) gs
+        ≡ after (eventsOf s (slot x) m l ++ eventsOf s (slot y) m′ l′) (interpret translator s user (k (denied f)) m″ (keptIn l″) gs)
     unfolding interpret answered
     slots-second d =
         rw (
@@ -57,8 +56,8 @@ module _ {A : Type 0} (s : Space) (user : Bool) (x y : ℕ) {m l : List ℕ} {a 
         )
 
     -- both are granted
-    pub slots-both : {q : ℕ} → b ≡ At q → interpret buffered s user (ask (slots x y) k) m (held l) gs
-        ≡ after (eventsOf s (slot x) m l ++ eventsOf s (slot y) m′ l′) (interpret buffered s user (k (got 0)) m″ (held l″) (grant p 4 ∷ grant q 4 ∷ gs))
+    pub slots-both : {q : ℕ} → b ≡ At q → interpret translator s user (ask (slots x y) k) m (keptIn l) gs
+        ≡ after (eventsOf s (slot x) m l ++ eventsOf s (slot y) m′ l′) (interpret translator s user (k (got 0)) m″ (keptIn l″) (grant p 4 ∷ grant q 4 ∷ gs))
     unfolding interpret answered
     slots-both d =
         rw (

@@ -9,16 +9,16 @@ use Rattle.paging.specs.declared.Space.{Space}
 use Rattle.paging.specs.declared.Fault.{Fault}
 use Rattle.paging.specs.declared.Answer.{Answer}
 use Rattle.paging.specs.declared.Answer.the-variants.{At, Denied}
-use Rattle.paging.specs.Translate.{buffered}
-use Rattle.buffer.specs.Held.{held}
 use Rattle.mmu.specs.Good.{Good}
-use Rattle.mmu.specs.State.{State as Result, state as result}
+use Rattle.mmu.specs.Translates.{Kept, Result, result, keptIn, translator}
 use Rattle.rules.specs.declared.Regs.{Regs}
 use Rattle.rules.specs.declared.Cpu.{Cpu}
+use Rattle.rules.specs.declared.Key.{Key}
 use Rattle.rules.specs.Tree.{Tree, Grant, Ended, storeAll, interpret}
 use Rattle.rules.specs.Outcome.{Out, fine, unfetched, trap, refused, system}
 use Rattle.rules.specs.Trap.{Final}
 use Rattle.rules.specs.Step.{State, finished}
+use Rattle.rules.specs.Run.{stepsOf, lastOf}
 use Rattle.outcome.specs.declared.End.{End}
 use Rattle.outcome.specs.declared.End.the-variants as end
 use Rattle.outcome.specs.declared.Done.{Done}
@@ -65,15 +65,19 @@ made e = madeBy (e .leaf) (e .grants) (e .mem) (e .buffer)
 
 -- with writes gs granted, from memory m and buffer l: the code answered d, with memory m′ and buffer l′, as the tree says
 pub record Executes (t : Tree Out) (s : Space) (user : Bool) (gs : List Grant) (m l : List ℕ) (d : Done) (m′ l′ : List ℕ) : Type 0 where
-  pub same : result (outOf d) m′ (held l′) ≡ made (interpret buffered s user t m (held l) gs)
+  pub same : result (outOf d) m′ (keptIn l′) ≡ made (interpret translator s user t m (keptIn l) gs)
   pub good : Good (length m′) (s .pdir) l′
 
 -- ---- a step, or the rest of one
 
-abbrev pub stateOf : Cpu → List ℕ → List ℕ → List ℕ → State (List Entry)
-stateOf c m con l = record { cpu = c; mem = m; console = con; buffer = held l }
+abbrev pub stateOf : Cpu → List ℕ → List ℕ → List ℕ → State Kept
+stateOf c m con l = record { cpu = c; mem = m; console = con; buffer = keptIn l }
+
+-- where at most n steps from a state end
+abbrev pub endOf : List Key → ℕ → State Kept → State Kept
+endOf ks n s = lastOf s (stepsOf translator ks n s)
 
 -- from the record k, memory m, console con and buffer l: the code answered c, with m′, con′ and l′, as the tree says
 pub record Finishes (t : Tree Final) (k : Cpu) (m con l : List ℕ) (c : Cpu) (m′ con′ l′ : List ℕ) : Type 0 where
-  pub same : stateOf c m′ con′ l′ ≡ finished buffered (k .regs .count) (k .space) (k .written) con (interpret buffered (k .space) (k .system .user) t m (held l) [])
+  pub same : stateOf c m′ con′ l′ ≡ finished translator (k .regs .count) (k .space) (k .written) con (interpret translator (k .space) (k .system .user) t m (keptIn l) [])
   pub good : Good (length m′) (c .space .pdir) l′

@@ -19,15 +19,15 @@ abbrev pub words : (page dir tab : ℕ) → Words
 words p d t = record { page = p; dir = d; tab = t }
 
 -- page 2 is held, with its directory word at 0x1000 and its table word at 0x2008
-pub held : List Words
+pub pageTwo : List Words
 unfolding storesHeld touchesHeld touches
-held = words 2 0x1000 0x2008 ∷ []
+pageTwo = words 2 0x1000 0x2008 ∷ []
 
 -- ---- other places
 
 -- a table word that no entry held was read from; user data
-pub elsewhere : storesHeld held (stored 0x2010 4 ∷ stored 0x3010 4 ∷ []) ≡ false
-unfolding held
+pub elsewhere : storesHeld pageTwo (stored 0x2010 4 ∷ stored 0x3010 4 ∷ []) ≡ false
+unfolding pageTwo
 elsewhere = refl
 
 -- nothing is held
@@ -38,32 +38,32 @@ nothing-held = refl
 -- ---- bytes beside the words
 
 -- the byte just before a word, and the store that ends there
-pub before-words : storesHeld held (stored 0xfff 1 ∷ stored 0xffc 4 ∷ stored 0x2007 1 ∷ stored 0x2004 4 ∷ []) ≡ false
-unfolding held
+pub before-words : storesHeld pageTwo (stored 0xfff 1 ∷ stored 0xffc 4 ∷ stored 0x2007 1 ∷ stored 0x2004 4 ∷ []) ≡ false
+unfolding pageTwo
 before-words = refl
 
 -- the byte just after a word, and the store that begins there
-pub after-words : storesHeld held (stored 0x1004 1 ∷ stored 0x1004 4 ∷ stored 0x200c 1 ∷ stored 0x200c 4 ∷ []) ≡ false
-unfolding held
+pub after-words : storesHeld pageTwo (stored 0x1004 1 ∷ stored 0x1004 4 ∷ stored 0x200c 1 ∷ stored 0x200c 4 ∷ []) ≡ false
+unfolding pageTwo
 after-words = refl
 
 -- ---- events that are no stores
 
 -- a frame delivered outside words held: its two slots, then the trap
-pub frame-elsewhere : storesHeld held (stored 0x3ff8 4 ∷ stored 0x3ff0 4 ∷ delivered 1 ∷ []) ≡ false
-unfolding held
+pub frame-elsewhere : storesHeld pageTwo (stored 0x3ff8 4 ∷ stored 0x3ff0 4 ∷ delivered 1 ∷ []) ≡ false
+unfolding pageTwo
 frame-elsewhere = refl
 
 -- a walk, an entry kept, the buffer emptied, a frame delivered: none counts by itself
-pub others-listed : storesHeld held (walked ∷ kept (words 3 0x1000 0x200c) ∷ delivered 1 ∷ emptied ∷ []) ≡ false
-unfolding held place
+pub others-listed : storesHeld pageTwo (walked ∷ kept (words 3 0x1000 0x200c) ∷ delivered 1 ∷ emptied ∷ []) ≡ false
+unfolding pageTwo place
 others-listed = refl
 
 -- ---- the walk's marks
 
 -- marks in words held
-pub marks-listed : storesHeld held (marked 0x1000 ∷ marked 0x2008 ∷ []) ≡ false
-unfolding held
+pub marks-listed : storesHeld pageTwo (marked 0x1000 ∷ marked 0x2008 ∷ []) ≡ false
+unfolding pageTwo
 marks-listed = refl
 
 -- a small memory whose directory and table begin at 0. Directory words: at 0 for pages 0 to 1023, at 4 for pages 1024 to 2047; both name the
@@ -111,15 +111,15 @@ faulting-walk = refl
 -- ---- entries that were replaced
 
 -- the same page is kept again, from other words: a store into the old ones
-pub replaced-words : storesHeld held (kept (words 2 0x1800 0x2808) ∷ stored 0x1000 4 ∷ stored 0x2008 4 ∷ []) ≡ false
-unfolding held place
+pub replaced-words : storesHeld pageTwo (kept (words 2 0x1800 0x2808) ∷ stored 0x1000 4 ∷ stored 0x2008 4 ∷ []) ≡ false
+unfolding pageTwo place
 replaced-words = refl
 
 -- ---- entries that were emptied
 
 -- by PDIR or SPAG
-pub emptied-by-space : storesHeld held (buffered .emptyEvents ++ (stored 0x1000 4 ∷ stored 0x2008 4 ∷ [])) ≡ false
-unfolding held
+pub emptied-by-space : storesHeld pageTwo (buffered .emptyEvents ++ (stored 0x1000 4 ∷ stored 0x2008 4 ∷ [])) ≡ false
+unfolding pageTwo
 emptied-by-space = refl
 
 -- n entries, of the pages n - 1 down to 0
@@ -128,21 +128,21 @@ entries zero = []
 entries (suc n) = record { page = n; frame = 0; user = true; write = true } ∷ entries n
 
 -- by the 65th page, number 64, whose own words are at 0x1000 and 0x2100
-pub emptied-by-page : storesHeld held (walkEvents 64 (entries 64) (found 0 true true 0x1000 0x2100) ++ (stored 0x2008 4 ∷ [])) ≡ false
-unfolding held entries place walkEvents fits has
+pub emptied-by-page : storesHeld pageTwo (walkEvents 64 (entries 64) (found 0 true true 0x1000 0x2100) ++ (stored 0x2008 4 ∷ [])) ≡ false
+unfolding pageTwo entries place walkEvents fits has
 emptied-by-page = refl
 
 -- ---- in a later step
 
 -- what is held after a step's events: only an entry kept and a buffer emptied change it
-pub held-later : heldAfter held (walked ∷ marked 0x1000 ∷ stored 0x3010 4 ∷ delivered 1 ∷ []) ≡ held
-unfolding held heldAfter
+pub held-later : heldAfter pageTwo (walked ∷ marked 0x1000 ∷ stored 0x3010 4 ∷ delivered 1 ∷ []) ≡ pageTwo
+unfolding pageTwo heldAfter
 held-later = refl
 
-pub replaced-later : heldAfter held (kept (words 2 0x1800 0x2808) ∷ []) ≡ words 2 0x1800 0x2808 ∷ []
-unfolding held heldAfter place
+pub replaced-later : heldAfter pageTwo (kept (words 2 0x1800 0x2808) ∷ []) ≡ words 2 0x1800 0x2808 ∷ []
+unfolding pageTwo heldAfter place
 replaced-later = refl
 
-pub emptied-later : heldAfter held (emptied ∷ []) ≡ []
-unfolding held heldAfter
+pub emptied-later : heldAfter pageTwo (emptied ∷ []) ≡ []
+unfolding pageTwo heldAfter
 emptied-later = refl

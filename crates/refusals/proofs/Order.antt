@@ -12,9 +12,9 @@ use Rattle.rules.specs.Run.{registersOk}
 use Rattle.refusals.specs.View.{entriesOf}
 use Rattle.refusals.specs.Refusal.{refusalOf}
 
-module _ (m : Machine) (size room : ℕ) (rising : Bool) (keys budget : ℕ) where
+module _ (m : Machine) (size consoleSize : ℕ) (rising : Bool) (keys budget : ℕ) where
   abbrev answer : RunAnswer
-  answer = refusalOf m size room rising keys budget
+  answer = refusalOf m size consoleSize rising keys budget
 
   pub bad-size : sizeOk size ≡ false → BadSize ≡ answer
   unfolding refusalOf
@@ -36,11 +36,11 @@ module _ (m : Machine) (size room : ℕ) (rising : Bool) (keys budget : ℕ) whe
         bad-keys e = rw (p, q, r, e)
 
         module _ (s : (rising && leb (m .cpu .clock .taken) keys) ≡ true) where
-          pub bad-console : leb (m .cpu .written) room ≡ false → BadConsole ≡ answer
+          pub bad-console : leb (m .cpu .written) consoleSize ≡ false → BadConsole ≡ answer
           unfolding refusalOf
           bad-console e = rw (p, q, r, s, e)
 
-          module _ (t : leb (m .cpu .written) room ≡ true) where
+          module _ (t : leb (m .cpu .written) consoleSize ≡ true) where
             pub bad-budget : leb budget 1000000 ≡ false → BadBudget ≡ answer
             unfolding refusalOf
             bad-budget e = rw (p, q, r, s, t, e)

@@ -98,13 +98,13 @@ module _ (n : ℕ) (es : List Entry) (z : length es ≡ 64) (few : n ≤ 64) whe
 
   pub record Passed (size k : ℕ) (s : List Bool) : Type 0 where
     pub least : k ≤ n
-    pub room : length s ≡ 256
+    pub consoleSize : length s ≡ 256
     pub passed : entriesOk size (drop k (take n es)) ≡ true
     pub seen : allSeen s (drop k (take n es)) ≡ true
 
   pub none-passed : (size : ℕ) (s : List Bool) → length s ≡ 256 → Passed size n s
   unfolding entriesOk allSeen
-  none-passed size s l = record { least = omega arith; room = l; passed = rw (past n (omega arith)); seen = rw (past n (omega arith)) }
+  none-passed size s l = record { least = omega arith; consoleSize = l; passed = rw (past n (omega arith)); seen = rw (past n (omega arith)) }
 
   pub all-passed : (size k : ℕ) {s : List Bool} → Passed size k s → k ≤ 0 → true ≡ bufferOk size (firstSlots n es)
   all-passed size k p h = let q : k ≡ 0 = omega arith in sym (tested size ∙ rw q at (p .passed))
@@ -131,10 +131,10 @@ module _ (n : ℕ) (es : List Entry) (z : length es ≡ 64) (few : n ≤ 64) whe
       pub entry-passes : has entryPage (entry .page) (drop k (take n es)) ≡ false → Passed size (k - 1) (set s (entry .page % 256) true)
       unfolding entriesOk allSeen
       entry-passes e =
-          let l : entry .page % 256 < length s = omega (arith, p .room) in
+          let l : entry .page % 256 < length s = omega (arith, p .consoleSize) in
           record {
             least = omega (arith, p .least);
-            room = length-set s (entry .page % 256) true ∙ p .room;
+            consoleSize = length-set s (entry .page % 256) true ∙ p .consoleSize;
             passed = rw (last, ← q, ok, e) (p .passed);
             seen = rw (last, getD-set-same s (entry .page % 256) true false l) (all-seen-set s (entry .page % 256) (drop k (take n es)) l (p .seen));
           }

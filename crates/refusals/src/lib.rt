@@ -84,12 +84,12 @@ fn slots_ok(m: Machine, size: usize) -> bool
 pub fn refusal(
     m: Machine,
     size: usize,
-    room: usize,
+    console_size: usize,
     rising: bool,
     keys: usize,
     budget: u64,
 ) -> RunAnswer
-    ensures { λ r. ⌜ r ≡ refusalOf m size room rising keys budget ⌝ }
+    ensures { λ r. ⌜ r ≡ refusalOf m size console_size rising keys budget ⌝ }
 {
     if !memory::size_ok(size) {
         return RunAnswer::BadSize;
@@ -103,7 +103,7 @@ pub fn refusal(
     if !(rising & (m.cpu.clock.taken <= keys)) {
         return RunAnswer::BadKeys;
     }
-    if !(m.cpu.written <= room) {
+    if !(m.cpu.written <= console_size) {
         return RunAnswer::BadConsole;
     }
     if !(budget <= 1000000) {

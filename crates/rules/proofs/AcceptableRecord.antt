@@ -8,19 +8,19 @@ use Rattle.rules.specs.declared.Cpu.{Cpu}
 use Rattle.rules.specs.Run.{registersOk}
 
 -- the numbers by their values, so that a change of another part of the record is none of theirs; the list has `keys` keys, the console `room` bytes
-pub record Tested (keys room pc ivec sp usp ksp taken written : ℕ) : Type 0 where
+pub record Tested (keys consoleSize pc ivec sp usp ksp taken written : ℕ) : Type 0 where
   pub pc-aligned : pc % 4 ≡ 0
   pub ivec-aligned : ivec % 4 ≡ 0
   pub sp-aligned : sp % 8 ≡ 0
   pub usp-aligned : usp % 8 ≡ 0
   pub ksp-aligned : ksp % 8 ≡ 0
   pub listed : taken ≤ keys
-  pub fits : written ≤ room
+  pub fits : written ≤ consoleSize
 
 -- of a record
-abbrev pub Passes : (keys room : ℕ) → Cpu → Type 0
-Passes keys room c =
-    Tested keys room (c .regs .pc) (c .system .ivec) (c .regs .sp) (c .system .usp) (c .system .ksp) (c .clock .taken) (c .written)
+abbrev pub Passes : (keys consoleSize : ℕ) → Cpu → Type 0
+Passes keys consoleSize c =
+    Tested keys consoleSize (c .regs .pc) (c .system .ivec) (c .regs .sp) (c .system .usp) (c .system .ksp) (c .clock .taken) (c .written)
 
 -- the page directory, in a memory of a size
 pub record Directory (size pdir : ℕ) : Type 0 where
@@ -28,8 +28,8 @@ pub record Directory (size pdir : ℕ) : Type 0 where
   pub inside : pdir < size
 
 -- all of it
-pub record Acceptable (size keys room : ℕ) (c : Cpu) : Type 0 where
-  pub passes : Passes keys room c
+pub record Acceptable (size keys consoleSize : ℕ) (c : Cpu) : Type 0 where
+  pub passes : Passes keys consoleSize c
   pub directory : Directory size (c .space .pdir)
 
 -- ---- and refusal 2
@@ -48,10 +48,10 @@ eight true false c d e f g h q = absurd (false≢true q)
 eight false b c d e f g h q = absurd (false≢true q)
 
 -- a record that is not refused with 2, 4 or 5
-pub registers-acceptable : (size keys room : ℕ) (c : Cpu) → registersOk size c ≡ true → c .clock .taken ≤ keys → c .written ≤ room
-    → Acceptable size keys room c
+pub registers-acceptable : (size keys consoleSize : ℕ) (c : Cpu) → registersOk size c ≡ true → c .clock .taken ≤ keys → c .written ≤ consoleSize
+    → Acceptable size keys consoleSize c
 unfolding registersOk
-registers-acceptable size keys room c q t w =
+registers-acceptable size keys consoleSize c q t w =
     let r = c .regs in
     let y = c .system in
     let p =
@@ -71,7 +71,7 @@ registers-acceptable size keys room c q t w =
     }
 
 -- what refusal 2 still depends on
-pub acceptable-registers : {size keys room : ℕ} (c : Cpu) → Acceptable size keys room c → registersOk size c ≡ ltb (c .regs .count) (2 ^ 63)
+pub acceptable-registers : {size keys consoleSize : ℕ} (c : Cpu) → Acceptable size keys consoleSize c → registersOk size c ≡ ltb (c .regs .count) (2 ^ 63)
 unfolding registersOk
 acceptable-registers {size} c g =
     let p = g .passes in

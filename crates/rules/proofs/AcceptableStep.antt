@@ -27,7 +27,7 @@ use Rattle.rules.specs.Record.{setPc, setSp, withRegs, withSystem, withV
 use Rattle.rules.specs.Tree.{Reply, got, denied, Tree, interpret}
 use Rattle.rules.specs.Outcome.{Out, fine, unfetched, trap, refused, system}
 use Rattle.rules.specs.Execute.{moved}
-use Rattle.rules.specs.Trap.{Effect, none as nothing, turn, deliver, print, Final, ended, entered, framed, deliverTree, trapTree, nextPc, faultTree}
+use Rattle.rules.specs.Trap.{Effect, none as nothing, setSpace, deliver, print, Final, ended, entered, framed, deliverTree, trapTree, nextPc, faultTree}
 use Rattle.rules.specs.System.{backTo, returned, orFault, rtiTree, boutTree, pdirTree, privilegedTree, systemTree}
 use Rattle.rules.specs.Clock.{nextOf, keyComes, keyed, timed, dueOf, ticked}
 use Rattle.rules.specs.Step.{awake, settleTree, dueTree, stepTree, State, spaceAfter, consoleAfter, step}
@@ -37,34 +37,34 @@ use Rattle.rules.proofs.AlignedInstruction.{RegsAligned, OutAligned, in
 use Rattle.rules.proofs.AcceptableRecord.{Tested, Passes, Directory, Acceptable, registers-acceptable, acceptable-registers}
 
 -- the end of a step from the address space s
-pub record FinalAcceptable (size keys room : ℕ) (s : Space) (f : Final) : Type 0 where
-  pub passes : Passes keys room (f .cpu)
+pub record FinalAcceptable (size keys consoleSize : ℕ) (s : Space) (f : Final) : Type 0 where
+  pub passes : Passes keys consoleSize (f .cpu)
   pub directory : Directory size (spaceAfter s (f .effect) .pdir)
 
-module _ (size keys room : ℕ) (s : Space) (d : Directory size (s .pdir)) where
+module _ (size keys consoleSize : ℕ) (s : Space) (d : Directory size (s .pdir)) where
   -- every leaf of a tree
   abbrev AllAcceptable : Tree Final → Type 0
-  AllAcceptable t = Leaves (FinalAcceptable size keys room s) t
+  AllAcceptable t = Leaves (FinalAcceptable size keys consoleSize s) t
 
   -- the record alone changes
-  ended-acceptable : {c : Cpu} → Passes keys room c → AllAcceptable (ended c)
+  ended-acceptable : {c : Cpu} → Passes keys consoleSize c → AllAcceptable (ended c)
   unfolding spaceAfter
   ended-acceptable p = at-leaf (record { passes = p; directory = d })
 
   -- ---- traps
 
   -- "usp = sp, sp = ksp .. sp falls by 16 .. pc = ivec"
-  entered-passes : (c : Cpu) → Passes keys room c → Passes keys room (entered c)
+  entered-passes : (c : Cpu) → Passes keys consoleSize c → Passes keys consoleSize (entered c)
   entered-passes c p = go (c .system .user)
     where
       go : (user : Bool)
-          → Tested keys room (c .system .ivec) (c .system .ivec) (difference (if user then c .system .ksp else c .regs .sp) 16)
+          → Tested keys consoleSize (c .system .ivec) (c .system .ivec) (difference (if user then c .system .ksp else c .regs .sp) 16)
           (if user then c .regs .sp else c .system .usp) (c .system .ksp) (c .clock .taken) (c .written)
       go true = omega arith
       go false = omega arith
 
   -- a trap frame
-  deliver-acceptable : (c : Cpu) (code pc : ℕ) → Passes keys room c → AllAcceptable (deliverTree c code pc)
+  deliver-acceptable : (c : Cpu) (code pc : ℕ) → Passes keys consoleSize c → AllAcceptable (deliverTree c code pc)
   unfolding deliverTree spaceAfter
   deliver-acceptable c code pc p = at-ask go
     where
@@ -73,58 +73,58 @@ module _ (size keys room : ℕ) (s : Space) (d : Directory size (s .pdir)) where
       go (denied f) = at-leaf (record { passes = p; directory = d })
 
   -- a trap, or a stop with 2
-  trap-acceptable : (c : Cpu) (code pc : ℕ) → Passes keys room c → AllAcceptable (trapTree c code pc)
+  trap-acceptable : (c : Cpu) (code pc : ℕ) → Passes keys consoleSize c → AllAcceptable (trapTree c code pc)
   unfolding trapTree
   trap-acceptable c code pc p = leaves-if (c .system .iena) (deliver-acceptable c code pc p) (ended-acceptable p)
 
   -- a fault with its address
-  fault-acceptable : (c : Cpu) (f : Fault) (pc : ℕ) → Passes keys room c → AllAcceptable (faultTree c f pc)
+  fault-acceptable : (c : Cpu) (f : Fault) (pc : ℕ) → Passes keys consoleSize c → AllAcceptable (faultTree c f pc)
   unfolding faultTree
   fault-acceptable c f pc p = trap-acceptable (withVadr (f .address) c) (f .code) pc p
 
   -- ---- privileged instructions
 
   -- what follows a reply of RTI's reads
-  reply-acceptable : (c : Cpu) {k : ℕ → Tree Final} → Passes keys room c → ((v : ℕ) → AllAcceptable (k v)) → (r : Reply) → AllAcceptable (orFault c k r)
+  reply-acceptable : (c : Cpu) {k : ℕ → Tree Final} → Passes keys consoleSize c → ((v : ℕ) → AllAcceptable (k v)) → (r : Reply) → AllAcceptable (orFault c k r)
   reply-acceptable c p l (got v) = l v
   reply-acceptable c p l (denied f) = fault-acceptable c f (nextPc c) p
 
   -- "ksp = sp, sp = usp"
-  back-passes : (b : Bool) (c : Cpu) → Passes keys room c → Passes keys room (backTo b c)
+  back-passes : (b : Bool) (c : Cpu) → Passes keys consoleSize c → Passes keys consoleSize (backTo b c)
   back-passes true c p = omega arith
   back-passes false c p = p
 
   -- "sp rises by 16, iena = 1", and pc is v
-  returned-passes : (c : Cpu) (code v : ℕ) → Passes keys room c → Passes keys room (returned c code v)
+  returned-passes : (c : Cpu) (code v : ℕ) → Passes keys consoleSize c → Passes keys consoleSize (returned c code v)
   returned-passes c code v p =
       back-passes (bit USER code) (withRegs (setPc v (setSp (sum (c .regs .sp) 16) (c .regs))) (withSystem (withIena true (c .system)) c)) (omega arith)
 
   -- RTI
-  rti-acceptable : (c : Cpu) → Passes keys room c → AllAcceptable (rtiTree c)
+  rti-acceptable : (c : Cpu) → Passes keys consoleSize c → AllAcceptable (rtiTree c)
   unfolding rtiTree
   rti-acceptable c p =
       at-ask (reply-acceptable c p (λ code. at-ask (reply-acceptable c p (λ v. ended-acceptable (returned-passes c code v p)))))
 
   -- BOUT: "console full" leaves the count
-  bout-acceptable : (c : Cpu) → Passes keys room c → AllAcceptable (boutTree room c)
+  bout-acceptable : (c : Cpu) → Passes keys consoleSize c → AllAcceptable (boutTree consoleSize c)
   unfolding boutTree spaceAfter
   bout-acceptable c p =
-      leaves-test (ltb (c .written) room) (λ e. at-leaf (record { passes = omega (arith, ltb-true (c .written) room e); directory = d })) (ended-acceptable p)
+      leaves-test (ltb (c .written) consoleSize) (λ e. at-leaf (record { passes = omega (arith, ltb-true (c .written) consoleSize e); directory = d })) (ended-acceptable p)
 
   -- PDIR: "a not below M is FMEM ..; low twelve bits drop"
-  pdir-acceptable : (old c : Cpu) → Passes keys room old → Passes keys room c → AllAcceptable (pdirTree size old c)
+  pdir-acceptable : (old c : Cpu) → Passes keys consoleSize old → Passes keys consoleSize c → AllAcceptable (pdirTree size old c)
   unfolding pdirTree spaceAfter
   pdir-acceptable old c o p =
       leaves-test (ltb (c .regs .a) size) (λ e. at-leaf (record { passes = p; directory = omega (arith, ltb-true (c .regs .a) size e) }))
       (fault-acceptable old (record { code = FMEM; address = c .regs .a }) (nextPc old) o)
 
   -- TIME does something or nothing
-  time-passes : (b : Bool) (c : Cpu) → Passes keys room c → Passes keys room (if b then withClock (withTimeout (c .regs .a) (c .clock)) c else c)
+  time-passes : (b : Bool) (c : Cpu) → Passes keys consoleSize c → Passes keys consoleSize (if b then withClock (withTimeout (c .regs .a) (c .clock)) c else c)
   time-passes true c p = p
   time-passes false c p = p
 
   -- each: `old` is the record before the fetch
-  privileged-acceptable : (op : SysOp) (old c : Cpu) → Passes keys room old → Acceptable size keys room c → AllAcceptable (privilegedTree size room op old c)
+  privileged-acceptable : (op : SysOp) (old c : Cpu) → Passes keys consoleSize old → Acceptable size keys consoleSize c → AllAcceptable (privilegedTree size consoleSize op old c)
   unfolding privilegedTree spaceAfter
   privileged-acceptable Halt old c o g = ended-acceptable (g .passes)
   privileged-acceptable Cli old c o g = ended-acceptable (g .passes)
@@ -144,11 +144,11 @@ module _ (size keys room : ℕ) (s : Space) (d : Directory size (s .pdir)) where
   privileged-acceptable Idle old c o g = ended-acceptable (g .passes)
 
   -- "pc moves 4 on"
-  moved-acceptable : (c : Cpu) → Acceptable size keys room c → Acceptable size keys room (withRegs (moved (c .regs)) c)
+  moved-acceptable : (c : Cpu) → Acceptable size keys consoleSize c → Acceptable size keys consoleSize (withRegs (moved (c .regs)) c)
   moved-acceptable c g = record { passes = omega (arith, g .passes); directory = g .directory }
 
   -- with their privilege
-  system-acceptable : (op : SysOp) (c : Cpu) → Acceptable size keys room c → AllAcceptable (systemTree size room op c)
+  system-acceptable : (op : SysOp) (c : Cpu) → Acceptable size keys consoleSize c → AllAcceptable (systemTree size consoleSize op c)
   unfolding systemTree
   system-acceptable op c g =
       leaves-if (c .system .user) (trap-acceptable c FPRIV (nextPc c) (g .passes))
@@ -157,11 +157,11 @@ module _ (size keys room : ℕ) (s : Space) (d : Directory size (s .pdir)) where
   -- ---- the whole step
 
   -- an instruction's registers
-  fine-passes : (c : Cpu) (r : Regs) → Passes keys room c → RegsAligned r → Passes keys room (withRegs r c)
+  fine-passes : (c : Cpu) (r : Regs) → Passes keys consoleSize c → RegsAligned r → Passes keys consoleSize (withRegs r c)
   fine-passes c r p h = omega arith
 
   -- whatever the instruction came to
-  settle-acceptable : (c : Cpu) → Acceptable size keys room c → (x : Out) → OutAligned x → AllAcceptable (settleTree size room c x)
+  settle-acceptable : (c : Cpu) → Acceptable size keys consoleSize c → (x : Out) → OutAligned x → AllAcceptable (settleTree size consoleSize c x)
   unfolding settleTree spaceAfter
   settle-acceptable c g (fine r vs) h = at-leaf (record { passes = fine-passes c r (g .passes) h; directory = d })
   settle-acceptable c g (unfetched f) h = fault-acceptable c f (c .regs .pc) (g .passes)
@@ -170,12 +170,12 @@ module _ (size keys room : ℕ) (s : Space) (d : Directory size (s .pdir)) where
   settle-acceptable c g (system op) h = system-acceptable op c g
 
   -- something is due, or nothing
-  due-acceptable : (due : Option ℕ) (c : Cpu) → Acceptable size keys room c → AllAcceptable (dueTree due size room c)
+  due-acceptable : (due : Option ℕ) (c : Cpu) → Acceptable size keys consoleSize c → AllAcceptable (dueTree due size consoleSize c)
   unfolding dueTree
   due-acceptable (some code) c g = deliver-acceptable (awake c) code _ (g .passes)
   due-acceptable none c g =
       leaves-if (c .system .waiting) (ended-acceptable (g .passes))
-      (leaves-then (settleTree size room c) (instruction-aligned (c .regs) (omega (arith, g .passes))) (settle-acceptable c g))
+      (leaves-then (settleTree size consoleSize c) (instruction-aligned (c .regs) (omega (arith, g .passes))) (settle-acceptable c g))
 
 -- ---- rules 1 to 3
 
@@ -194,17 +194,17 @@ keyed-listed keys k true t more h = omega (arith, more refl)
 keyed-listed keys k false t more h = h
 
 -- the record after them
-ticked-acceptable : {size keys room : ℕ} (k : Next) (c : Cpu) → (k .some ≡ true → c .clock .taken < keys) → Acceptable size keys room c → Acceptable size keys room (ticked k c)
+ticked-acceptable : {size keys consoleSize : ℕ} (k : Next) (c : Cpu) → (k .some ≡ true → c .clock .taken < keys) → Acceptable size keys consoleSize c → Acceptable size keys consoleSize (ticked k c)
 unfolding ticked
 ticked-acceptable {keys = keys} k c more g =
     let l = keyed-listed keys k (keyComes k c) (c .clock) (λ e. more (both (k .some) (leb (k .step) (c .regs .count + 1)) e .0)) (g .passes .listed) in
     record { passes = omega (arith, g .passes, l, timed-taken (keyed k (keyComes k c) (c .clock))); directory = g .directory }
 
 -- a whole step: k is the next key of a list of `keys`
-step-acceptable : {size keys room : ℕ} (k : Next) (c : Cpu) → (k .some ≡ true → c .clock .taken < keys) → Acceptable size keys room c
-    → Leaves (FinalAcceptable size keys room (c .space)) (stepTree k size room c)
+step-acceptable : {size keys consoleSize : ℕ} (k : Next) (c : Cpu) → (k .some ≡ true → c .clock .taken < keys) → Acceptable size keys consoleSize c
+    → Leaves (FinalAcceptable size keys consoleSize (c .space)) (stepTree k size consoleSize c)
 unfolding stepTree
-step-acceptable {size} {keys} {room} k c more g = due-acceptable size keys room (c .space) (g .directory) (dueOf k c) (ticked k c) (ticked-acceptable k c more g)
+step-acceptable {size} {keys} {consoleSize} k c more g = due-acceptable size keys consoleSize (c .space) (g .directory) (dueOf k c) (ticked k c) (ticked-acceptable k c more g)
 
 -- ---- as a step of a machine
 
@@ -222,7 +222,7 @@ next-listed ks n q = ltb-true n (length ks) (sym (next-some (ltb n (length ks)) 
 console-length : (con : List ℕ) (n : ℕ) (e : Effect) → length (consoleAfter con n e) ≡ length con
 unfolding consoleAfter
 console-length con n nothing = refl
-console-length con n (turn t) = refl
+console-length con n (setSpace t) = refl
 console-length con n (deliver code) = refl
 console-length con n (print x) = length-set con n x
 

@@ -18,7 +18,7 @@ use Rattle.rules.specs.declared.Cpu.{Cpu}
 use Rattle.rules.specs.declared.Key.{Key}
 use Rattle.rules.specs.declared.Next.{Next}
 use Rattle.rules.specs.Tree.{Grant, storeAll, storeEvents, Ended}
-use Rattle.rules.specs.Trap.{Effect, none, turn, deliver, print, Final}
+use Rattle.rules.specs.Trap.{Effect, none, setSpace, deliver, print, Final}
 use Rattle.rules.specs.Clock.{nextOf}
 use Rattle.rules.specs.Step.{stepTree, State, Stepped, spaceAfter, bufferAfter, effectEvents, steppedBy, stepBy, step}
 use Rattle.rules.proofs.Simulation.{EndAgrees, tree-agrees}
@@ -50,7 +50,7 @@ coherent-effect : {m : List ℕ} {es : List Entry} {hs : List Words} (s : Space)
     → Coherent m (spaceAfter s e .pdir) (bufferAfter buffered es e) (heldAfter hs (effectEvents buffered e))
 unfolding spaceAfter bufferAfter effectEvents heldAfter
 coherent-effect s none c = c
-coherent-effect {m} {es} {hs} s (turn t) c = emptied-coherent m (t .pdir) es hs
+coherent-effect {m} {es} {hs} s (setSpace t) c = emptied-coherent m (t .pdir) es hs
 coherent-effect s (deliver code) c = c
 coherent-effect s (print x) c = c
 

@@ -65,9 +65,9 @@ module _ (s : Space) (h : s .pdir % 4 ≡ 0) where
   rti-aligned c = at-ask (reply-aligned c (λ code. at-ask (reply-aligned c (λ pc. ended-aligned _))))
 
   -- BOUT
-  bout-aligned : (room : ℕ) (c : Cpu) → Aligned (boutTree room c)
+  bout-aligned : (consoleSize : ℕ) (c : Cpu) → Aligned (boutTree consoleSize c)
   unfolding boutTree spaceAfter
-  bout-aligned room c = leaves-if (ltb (c .written) room) (at-leaf h) (ended-aligned _)
+  bout-aligned consoleSize c = leaves-if (ltb (c .written) consoleSize) (at-leaf h) (ended-aligned _)
 
   -- PDIR: "low twelve bits drop"
   pdir-aligned : (size : ℕ) (old c : Cpu) → Aligned (pdirTree size old c)
@@ -75,48 +75,48 @@ module _ (s : Space) (h : s .pdir % 4 ≡ 0) where
   pdir-aligned size old c = leaves-if (ltb (c .regs .a) size) (at-leaf (omega arith)) (fault-aligned old (record { code = FMEM; address = c .regs .a }) (nextPc old))
 
   -- each privileged instruction; SPAG leaves the page directory that the record has
-  privileged-aligned : (size room : ℕ) (op : SysOp) (old c : Cpu) → c .space .pdir % 4 ≡ 0 → Aligned (privilegedTree size room op old c)
+  privileged-aligned : (size consoleSize : ℕ) (op : SysOp) (old c : Cpu) → c .space .pdir % 4 ≡ 0 → Aligned (privilegedTree size consoleSize op old c)
   unfolding privilegedTree spaceAfter
-  privileged-aligned size room Halt old c e = ended-aligned _
-  privileged-aligned size room Cli old c e = ended-aligned _
-  privileged-aligned size room Sti old c e = ended-aligned _
-  privileged-aligned size room Rti old c e = rti-aligned old
-  privileged-aligned size room Bin old c e = ended-aligned _
-  privileged-aligned size room Bout old c e = bout-aligned room c
-  privileged-aligned size room Ssp old c e = ended-aligned _
-  privileged-aligned size room Ivec old c e = ended-aligned _
-  privileged-aligned size room Pdir old c e = pdir-aligned size old c
-  privileged-aligned size room Spag old c e = at-leaf e
-  privileged-aligned size room (Time i) old c e = ended-aligned _
-  privileged-aligned size room Lvad old c e = ended-aligned _
-  privileged-aligned size room Lusp old c e = ended-aligned _
-  privileged-aligned size room Susp old c e = ended-aligned _
-  privileged-aligned size room Msiz old c e = ended-aligned _
-  privileged-aligned size room Idle old c e = ended-aligned _
+  privileged-aligned size consoleSize Halt old c e = ended-aligned _
+  privileged-aligned size consoleSize Cli old c e = ended-aligned _
+  privileged-aligned size consoleSize Sti old c e = ended-aligned _
+  privileged-aligned size consoleSize Rti old c e = rti-aligned old
+  privileged-aligned size consoleSize Bin old c e = ended-aligned _
+  privileged-aligned size consoleSize Bout old c e = bout-aligned consoleSize c
+  privileged-aligned size consoleSize Ssp old c e = ended-aligned _
+  privileged-aligned size consoleSize Ivec old c e = ended-aligned _
+  privileged-aligned size consoleSize Pdir old c e = pdir-aligned size old c
+  privileged-aligned size consoleSize Spag old c e = at-leaf e
+  privileged-aligned size consoleSize (Time i) old c e = ended-aligned _
+  privileged-aligned size consoleSize Lvad old c e = ended-aligned _
+  privileged-aligned size consoleSize Lusp old c e = ended-aligned _
+  privileged-aligned size consoleSize Susp old c e = ended-aligned _
+  privileged-aligned size consoleSize Msiz old c e = ended-aligned _
+  privileged-aligned size consoleSize Idle old c e = ended-aligned _
 
   -- with their privilege
-  system-aligned : (size room : ℕ) (op : SysOp) (c : Cpu) → c .space .pdir % 4 ≡ 0 → Aligned (systemTree size room op c)
+  system-aligned : (size consoleSize : ℕ) (op : SysOp) (c : Cpu) → c .space .pdir % 4 ≡ 0 → Aligned (systemTree size consoleSize op c)
   unfolding systemTree
-  system-aligned size room op c e = leaves-if (c .system .user) (trap-aligned c FPRIV (nextPc c)) (privileged-aligned size room op c (withRegs (moved (c .regs)) c) e)
+  system-aligned size consoleSize op c e = leaves-if (c .system .user) (trap-aligned c FPRIV (nextPc c)) (privileged-aligned size consoleSize op c (withRegs (moved (c .regs)) c) e)
 
   -- whatever the instruction came to
-  settle-aligned : (size room : ℕ) (c : Cpu) → c .space .pdir % 4 ≡ 0 → (x : Out) → Aligned (settleTree size room c x)
+  settle-aligned : (size consoleSize : ℕ) (c : Cpu) → c .space .pdir % 4 ≡ 0 → (x : Out) → Aligned (settleTree size consoleSize c x)
   unfolding settleTree spaceAfter
-  settle-aligned size room c e (fine r vs) = at-leaf h
-  settle-aligned size room c e (unfetched f) = fault-aligned c f (c .regs .pc)
-  settle-aligned size room c e (trap code) = trap-aligned c code (nextPc c)
-  settle-aligned size room c e (refused f) = fault-aligned c f (nextPc c)
-  settle-aligned size room c e (system op) = system-aligned size room op c e
+  settle-aligned size consoleSize c e (fine r vs) = at-leaf h
+  settle-aligned size consoleSize c e (unfetched f) = fault-aligned c f (c .regs .pc)
+  settle-aligned size consoleSize c e (trap code) = trap-aligned c code (nextPc c)
+  settle-aligned size consoleSize c e (refused f) = fault-aligned c f (nextPc c)
+  settle-aligned size consoleSize c e (system op) = system-aligned size consoleSize op c e
 
   -- something is due, or nothing
-  due-aligned : (due : Option ℕ) (size room : ℕ) (c : Cpu) → c .space .pdir % 4 ≡ 0 → Aligned (dueTree due size room c)
+  due-aligned : (due : Option ℕ) (size consoleSize : ℕ) (c : Cpu) → c .space .pdir % 4 ≡ 0 → Aligned (dueTree due size consoleSize c)
   unfolding dueTree
-  due-aligned (some code) size room c e = deliver-aligned (awake c) code _
-  due-aligned none size room c e =
+  due-aligned (some code) size consoleSize c e = deliver-aligned (awake c) code _
+  due-aligned none size consoleSize c e =
       leaves-if (c .system .waiting) (ended-aligned c)
-      (leaves-bind (instructionTree (c .regs)) (settleTree size room c) (settle-aligned size room c e))
+      (leaves-bind (instructionTree (c .regs)) (settleTree size consoleSize c) (settle-aligned size consoleSize c e))
 
 -- a whole step
-pub step-aligned : (k : Next) (size room : ℕ) (c : Cpu) → c .space .pdir % 4 ≡ 0 → Leaves (DirectoryAligned (c .space)) (stepTree k size room c)
+pub step-aligned : (k : Next) (size consoleSize : ℕ) (c : Cpu) → c .space .pdir % 4 ≡ 0 → Leaves (DirectoryAligned (c .space)) (stepTree k size consoleSize c)
 unfolding stepTree ticked
-step-aligned k size room c h = due-aligned (c .space) h (dueOf k c) size room (ticked k c) h
+step-aligned k size consoleSize c h = due-aligned (c .space) h (dueOf k c) size consoleSize (ticked k c) h

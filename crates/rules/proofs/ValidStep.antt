@@ -18,7 +18,7 @@ use Rattle.paging.proofs.ValidBuffer.{Valid, Keeps, keeps-all, keeps-both, requ
 use Rattle.rules.specs.declared.Key.{Key}
 use Rattle.rules.specs.declared.Next.{Next}
 use Rattle.rules.specs.Tree.{Ask, access, slots, Tree, ask, done, Grant, storeAll, slot, requested, secondSlot, firstSlot, answered, interpret}
-use Rattle.rules.specs.Trap.{Effect, none, turn, deliver, print}
+use Rattle.rules.specs.Trap.{Effect, none, setSpace, deliver, print}
 use Rattle.rules.specs.Clock.{nextOf}
 use Rattle.rules.specs.Step.{stepTree, State, bufferAfter, stepBy, step}
 use Rattle.rules.proofs.Leaves.{leaf-at}
@@ -74,7 +74,7 @@ length-stores (g ∷ gs) (v ∷ vs) m = length-stores gs vs (storeN (g .size) m 
 effect-ok : (size : ℕ) (es : List Entry) (e : Effect) → bufferOk size es ≡ true → bufferOk size (bufferAfter buffered es e) ≡ true
 unfolding bufferAfter
 effect-ok size es none h = h
-effect-ok size es (turn t) h = empty-ok size
+effect-ok size es (setSpace t) h = empty-ok size
 effect-ok size es (deliver c) h = h
 effect-ok size es (print x) h = h
 

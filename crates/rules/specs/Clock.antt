@@ -22,8 +22,8 @@ nextOf ks taken =
     else record { some = false; step = 0; byte = 0 }
 
 -- "Step count rises by 1"
-abbrev pub counted : Cpu → Cpu
-counted c = withRegs (withCount (c .regs .count + 1) (c .regs)) c
+abbrev pub stepCounted : Cpu → Cpu
+stepCounted c = withRegs (withCount (c .regs .count + 1) (c .regs)) c
 
 -- "If the next key's step number is at most the count": the count already raised
 abbrev pub keyComes : Next → Cpu → Bool
@@ -46,7 +46,7 @@ timed t =
 
 -- the record after rules 1 to 3
 unfoldable pub ticked : Next → Cpu → Cpu
-ticked k c = withClock (timed (keyed k (keyComes k c) (c .clock))) (counted c)
+ticked k c = withClock (timed (keyed k (keyComes k c) (c .clock))) (stepCounted c)
 
 -- "if iena, FKEYBD is due"; "if iena and nothing is due, FTIMER is due"
 abbrev pub dueBy : Bool → Bool → Option ℕ

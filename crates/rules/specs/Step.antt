@@ -15,18 +15,18 @@ use Rattle.rules.specs.Record.{withCount, withRegs, withSpace, withSyste
 use Rattle.rules.specs.Tree.{Tree, done, bind, Ended, storeAll, storeEvents, interpret}
 use Rattle.rules.specs.Outcome.{Out, fine, unfetched, trap, refused, system}
 use Rattle.rules.specs.Execute.{instructionTree}
-use Rattle.rules.specs.Trap.{Effect, none as nothing, turn, deliver, print, Final, final, ended, deliverTree, trapTree, faultTree, nextPc}
+use Rattle.rules.specs.Trap.{Effect, none as nothing, setSpace, deliver, print, Final, final, ended, deliverTree, trapTree, faultTree, nextPc}
 use Rattle.rules.specs.System.{systemTree}
 use Rattle.rules.specs.Clock.{nextOf, ticked, dueOf}
 
 -- the rest of a step after its instruction: c is the record before the fetch, its count raised, size and room the lengths of memory and console
-unfoldable pub settleTree : (size room : ℕ) → Cpu → Out → Tree Final
+unfoldable pub settleTree : (size consoleSize : ℕ) → Cpu → Out → Tree Final
 unfolding faultTree trapTree systemTree
-settleTree size room c (fine r vs) = final (withRegs r c) vs nothing
-settleTree size room c (unfetched f) = faultTree c f (c .regs .pc)
-settleTree size room c (trap code) = trapTree c code (nextPc c)
-settleTree size room c (refused f) = faultTree c f (nextPc c)
-settleTree size room c (system op) = systemTree size room op c
+settleTree size consoleSize c (fine r vs) = final (withRegs r c) vs nothing
+settleTree size consoleSize c (unfetched f) = faultTree c f (c .regs .pc)
+settleTree size consoleSize c (trap code) = trapTree c code (nextPc c)
+settleTree size consoleSize c (refused f) = faultTree c f (nextPc c)
+settleTree size consoleSize c (system op) = systemTree size consoleSize op c
 
 -- "waiting ends"
 abbrev pub awake : Cpu → Cpu
@@ -34,15 +34,15 @@ awake c = withSystem (withWaiting false (c .system)) c
 
 -- c is the record after rules 1 to 3
 -- rules 4 and 5: "If something is due, waiting ends and the trap is delivered; the step ends. If waiting, the step ends. Else fetch"
-unfoldable pub dueTree : Option ℕ → (size room : ℕ) → Cpu → Tree Final
+unfoldable pub dueTree : Option ℕ → (size consoleSize : ℕ) → Cpu → Tree Final
 unfolding settleTree instructionTree
-dueTree (some code) size room c = deliverTree (awake c) code (c .regs .pc)
-dueTree none size room c = if c .system .waiting then ended c else bind (instructionTree (c .regs)) (settleTree size room c)
+dueTree (some code) size consoleSize c = deliverTree (awake c) code (c .regs .pc)
+dueTree none size consoleSize c = if c .system .waiting then ended c else bind (instructionTree (c .regs)) (settleTree size consoleSize c)
 
 -- a step, from the record before it
-unfoldable pub stepTree : Next → (size room : ℕ) → Cpu → Tree Final
+unfoldable pub stepTree : Next → (size consoleSize : ℕ) → Cpu → Tree Final
 unfolding dueTree
-stepTree k size room c = dueTree (dueOf k c) size room (ticked k c)
+stepTree k size consoleSize c = dueTree (dueOf k c) size consoleSize (ticked k c)
 
 -- ---- the machines
 
@@ -61,14 +61,14 @@ pub record Stepped (B : Type 0) : Type 0 where
 -- PDIR and SPAG set the address space
 unfoldable pub spaceAfter : Space → Effect → Space
 spaceAfter s nothing = s
-spaceAfter s (turn t) = t
+spaceAfter s (setSpace t) = t
 spaceAfter s (deliver code) = s
 spaceAfter s (print x) = s
 
 -- BOUT's byte is appended: n bytes are written already
 unfoldable pub consoleAfter : List ℕ → ℕ → Effect → List ℕ
 consoleAfter con n nothing = con
-consoleAfter con n (turn t) = con
+consoleAfter con n (setSpace t) = con
 consoleAfter con n (deliver code) = con
 consoleAfter con n (print x) = set con n x
 
@@ -76,13 +76,13 @@ module _ {B : Type 0} (tr : Translator B) where
   -- "PDIR and SPAG, unless they fault, empty the buffer"
   unfoldable pub bufferAfter : B → Effect → B
   bufferAfter b nothing = b
-  bufferAfter b (turn t) = tr .empty b
+  bufferAfter b (setSpace t) = tr .empty b
   bufferAfter b (deliver code) = b
   bufferAfter b (print x) = b
 
   unfoldable pub effectEvents : Effect → List Event
   effectEvents nothing = []
-  effectEvents (turn t) = tr .emptyEvents
+  effectEvents (setSpace t) = tr .emptyEvents
   effectEvents (deliver code) = delivered code ∷ []
   effectEvents (print x) = []
 

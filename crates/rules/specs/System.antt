@@ -18,7 +18,7 @@ use Rattle.rules.specs.Record.{setPc, setSp, withSp, withRegs, withSyste
 use Rattle.rules.specs.Tree.{Reply, got, denied, Tree, ask, done, access}
 use Rattle.rules.specs.Arithmetic.{flag}
 use Rattle.rules.specs.Execute.{moved}
-use Rattle.rules.specs.Trap.{Final, final, ended, turn, print, nextPc, trapTree, faultTree}
+use Rattle.rules.specs.Trap.{Final, final, ended, setSpace, print, nextPc, trapTree, faultTree}
 
 -- "if the code contains the mark of value 16, ksp = sp, sp = usp, user = 1"; c has sp raised and pc set
 abbrev pub backTo : Bool → Cpu → Cpu
@@ -43,8 +43,8 @@ rtiTree c =
 
 -- "BOUT: b's low byte appended, a = 1; console full, a = 0xFFFFFFFF"; room is the console's length, c has pc moved on
 unfoldable pub boutTree : ℕ → Cpu → Tree Final
-boutTree room c =
-    if ltb (c .written) room
+boutTree consoleSize c =
+    if ltb (c .written) consoleSize
     then final (putA 1 (withWritten (c .written + 1) c)) [] (print (c .regs .b % 256))
     else ended (putA 0xffffffff c)
 
@@ -53,37 +53,37 @@ unfoldable pub pdirTree : ℕ → Cpu → Cpu → Tree Final
 unfolding faultTree
 pdirTree size old c =
     if ltb (c .regs .a) size
-    then final c [] (turn (withPdir (cut 4096 (c .regs .a)) (c .space)))
+    then final c [] (setSpace (withPdir (cut 4096 (c .regs .a)) (c .space)))
     else faultTree old (record { code = FMEM; address = c .regs .a }) (nextPc old)
 
 -- "SPAG: paging = (a ≠ 0)"; c has pc moved on
 abbrev pub spagTree : Cpu → Tree Final
-spagTree c = final c [] (turn (withPaging (not (eqb (c .regs .a) 0)) (c .space)))
+spagTree c = final c [] (setSpace (withPaging (not (eqb (c .regs .a) 0)) (c .space)))
 
 -- what each does: `old` is the record before the fetch, c has pc moved on
-unfoldable pub privilegedTree : (size room : ℕ) → SysOp → Cpu → Cpu → Tree Final
+unfoldable pub privilegedTree : (size consoleSize : ℕ) → SysOp → Cpu → Cpu → Tree Final
 unfolding rtiTree boutTree pdirTree
-privilegedTree size room Halt old c = ended (withStop Halted c)
-privilegedTree size room Cli old c = ended (putA (flag (c .system .iena)) (withSystem (withIena false (c .system)) c))
-privilegedTree size room Sti old c = ended (withSystem (withIena true (c .system)) c)
-privilegedTree size room Rti old c = rtiTree old
-privilegedTree size room Bin old c = ended (putA (c .clock .kbchar) (withClock (withKbchar 0xffffffff (c .clock)) c))
-privilegedTree size room Bout old c = boutTree room c
-privilegedTree size room Ssp old c = ended (withSystem (withKsp (cut 8 (c .regs .a)) (c .system)) c)
-privilegedTree size room Ivec old c = ended (withSystem (withIvec (cut 4 (c .regs .a)) (c .system)) c)
-privilegedTree size room Pdir old c = pdirTree size old c
-privilegedTree size room Spag old c = spagTree c
-privilegedTree size room (Time i) old c = ended (if eqb i 0 then withClock (withTimeout (c .regs .a) (c .clock)) c else c)
-privilegedTree size room Lvad old c = ended (putA (c .vadr) c)
-privilegedTree size room Lusp old c = ended (putA (c .system .usp) c)
-privilegedTree size room Susp old c = ended (withSystem (withUsp (cut 8 (c .regs .a)) (c .system)) c)
-privilegedTree size room Msiz old c = ended (putA size c)
-privilegedTree size room Idle old c = ended (withSystem (withWaiting (c .system .iena) (c .system)) c)
+privilegedTree size consoleSize Halt old c = ended (withStop Halted c)
+privilegedTree size consoleSize Cli old c = ended (putA (flag (c .system .iena)) (withSystem (withIena false (c .system)) c))
+privilegedTree size consoleSize Sti old c = ended (withSystem (withIena true (c .system)) c)
+privilegedTree size consoleSize Rti old c = rtiTree old
+privilegedTree size consoleSize Bin old c = ended (putA (c .clock .kbchar) (withClock (withKbchar 0xffffffff (c .clock)) c))
+privilegedTree size consoleSize Bout old c = boutTree consoleSize c
+privilegedTree size consoleSize Ssp old c = ended (withSystem (withKsp (cut 8 (c .regs .a)) (c .system)) c)
+privilegedTree size consoleSize Ivec old c = ended (withSystem (withIvec (cut 4 (c .regs .a)) (c .system)) c)
+privilegedTree size consoleSize Pdir old c = pdirTree size old c
+privilegedTree size consoleSize Spag old c = spagTree c
+privilegedTree size consoleSize (Time i) old c = ended (if eqb i 0 then withClock (withTimeout (c .regs .a) (c .clock)) c else c)
+privilegedTree size consoleSize Lvad old c = ended (putA (c .vadr) c)
+privilegedTree size consoleSize Lusp old c = ended (putA (c .system .usp) c)
+privilegedTree size consoleSize Susp old c = ended (withSystem (withUsp (cut 8 (c .regs .a)) (c .system)) c)
+privilegedTree size consoleSize Msiz old c = ended (putA size c)
+privilegedTree size consoleSize Idle old c = ended (withSystem (withWaiting (c .system .iena) (c .system)) c)
 
 -- "Privileged: the source's fifteen, and SSP"
-unfoldable pub systemTree : (size room : ℕ) → SysOp → Cpu → Tree Final
+unfoldable pub systemTree : (size consoleSize : ℕ) → SysOp → Cpu → Tree Final
 unfolding privilegedTree trapTree
-systemTree size room op c =
+systemTree size consoleSize op c =
     if c .system .user
     then trapTree c FPRIV (nextPc c)
-    else privilegedTree size room op c (withRegs (moved (c .regs)) c)
+    else privilegedTree size consoleSize op c (withRegs (moved (c .regs)) c)

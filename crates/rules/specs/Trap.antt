@@ -15,7 +15,7 @@ use Rattle.rules.specs.Tree.{Reply, got, denied, Tree, ask, done, slots}
 -- to the console
 pub data Effect : Type 0 where
   none : Effect
-  turn : Space → Effect
+  setSpace : Space → Effect
   deliver : ℕ → Effect
   print : ℕ → Effect
 

@@ -7,14 +7,15 @@ use mathlib.Core.Path.{_≡_, refl}
 use mathlib.Core.List.{List}
 use Rattle.word.specs.Word.{if_then_else_}
 use Rattle.paging.specs.declared.Entry.{Entry}
-use Rattle.paging.specs.Translate.{buffered}
+use Rattle.mmu.specs.Translates.{Kept, translator}
 use Rattle.rules.specs.declared.Key.{Key}
 use Rattle.rules.specs.declared.Stop.{Stop}
 use Rattle.rules.specs.declared.Stop.the-variants.{Running, Halted, Masked, NoFrame}
 use Rattle.rules.specs.Record.{isRunning}
 use Rattle.rules.specs.Step.{State}
 use Rattle.rules.specs.Run.{stepsOf, lastOf}
-use Rattle.runs.specs.Advance.{leftOf, endOf}
+use Rattle.runs.specs.Advance.{leftOf}
+use Rattle.outcome.specs.Contract.{endOf}
 
 pub left-taken : (s : Stop) (n : ℕ) → isRunning s ≡ true → n ≡ leftOf s n
 unfolding leftOf
@@ -40,7 +41,7 @@ left-running Masked n h = absurd (not-suc-le-zero h)
 left-running NoFrame n h = absurd (not-suc-le-zero h)
 
 -- the end is the same
-pub end-left : (ks : List Key) (n : ℕ) (s : State (List Entry)) → endOf ks n s ≡ endOf ks (leftOf (s .cpu .stop) n) s
+pub end-left : (ks : List Key) (n : ℕ) (s : State Kept) → endOf ks n s ≡ endOf ks (leftOf (s .cpu .stop) n) s
 unfolding leftOf stepsOf lastOf
 end-left ks zero s = go (isRunning (s .cpu .stop))
   where

@@ -15,10 +15,10 @@ use Rattle.rules.specs.declared.Key.{Key}
 use Rattle.rules.specs.declared.Next.{Next}
 use Rattle.rules.specs.declared.Stop.the-variants.{Running}
 use Rattle.rules.specs.Clock.{nextOf}
-use Rattle.outcome.specs.Contract.{stateOf}
-use Rattle.machine.specs.declared.Going.{Going as Advanced}
+use Rattle.outcome.specs.Contract.{stateOf, endOf}
+use Rattle.machine.specs.declared.Advanced.{Advanced}
 use Rattle.machine.specs.Advance.{Ready, Advances}
-use Rattle.runs.specs.Advance.{leftOf, endOf, Goes}
+use Rattle.runs.specs.Advance.{leftOf, Goes}
 use Rattle.runs.proofs.Left.{left-least, left-running, end-left}
 
 -- a turn's start: the record x with n steps left, after some steps or none from the record c with `left`

@@ -7,7 +7,8 @@ use mathlib.Core.List.{List}
 use lib.ListN.{length, take}
 use Rattle.paging.specs.declared.Entry.{Entry}
 use Rattle.paging.specs.Buffer.{bufferOk}
-use Rattle.buffer.specs.Held.{count, held, Buffer}
+use Rattle.buffer.specs.Held.{count, Buffer}
+use Rattle.mmu.specs.Translates.{keptIn}
 use Rattle.mmu.specs.Good.{Good}
 use Rattle.clock.specs.Due.{KeyFits}
 use Rattle.rules.specs.declared.Cpu.{Cpu}
@@ -17,22 +18,22 @@ use Rattle.rules.specs.declared.Machine.{Machine}
 use Rattle.rules.specs.declared.RunAnswer.{RunAnswer}
 use Rattle.rules.specs.Clock.{nextOf}
 use Rattle.rules.specs.Run.{allowance}
-use Rattle.outcome.specs.Contract.{stateOf}
-use Rattle.machine.specs.declared.Going.{Going as Advanced}
+use Rattle.outcome.specs.Contract.{stateOf, endOf}
+use Rattle.machine.specs.declared.Advanced.{Advanced}
 use Rattle.machine.specs.Advance.{Ready}
 use Rattle.refusals.specs.Refusal.{refusalOf}
 use Rattle.refusals.specs.View.{firstSlots, entriesOf, viewOf}
-use Rattle.runs.specs.declared.Going.{Going}
-use Rattle.runs.specs.declared.Ran.{Ran}
-use Rattle.runs.specs.Advance.{Goes, endOf, leftOf}
-use Rattle.runs.specs.Going.{Able, Proceeds, beginOf}
+use Rattle.runs.specs.declared.UnderWay.{UnderWay}
+use Rattle.runs.specs.declared.RunResult.{RunResult}
+use Rattle.runs.specs.Advance.{Goes, leftOf}
+use Rattle.runs.specs.UnderWay.{Able, Proceeds, beginOf}
 use Rattle.runs.proofs.Entries.{unpacked-first}
 
-module _ {g : Going} {size : ℕ} (b : Able g size) where
+module _ {g : UnderWay} {size : ℕ} (b : Able g size) where
   pub able-key : {key : Bool} → KeyFits key (g .taken) → KeyFits key (g .ran .machine .cpu .clock .taken)
   able-key {key} f = subst (λ (i : ℕ). KeyFits key i) (b .taken) f
 
-module _ {g : Going} {m : List ℕ} (b : Able g (length m)) {l : List ℕ} (h : held l ≡ entriesOf (g .ran .machine)) (u : Buffer l) where
+module _ {g : UnderWay} {m : List ℕ} (b : Able g (length m)) {l : List ℕ} (h : keptIn l ≡ entriesOf (g .ran .machine)) (u : Buffer l) where
   pub able-ready : Ready (g .ran .machine .cpu) (g .left) m l
   able-ready = record {
     good = record { directory = b .directory; buffer = u; entries = ap (bufferOk (length m)) h ∙ b .entries };
@@ -45,11 +46,11 @@ module _ {g : Going} {m : List ℕ} (b : Able g (length m)) {l : List ℕ} (h : 
     pub counts-rise : g .ran .machine .cpu .regs .count ≤ a .cpu .regs .count
     counts-rise = omega (arith, t .later)
 
-    module _ (es : List Entry) (e : take (count l′) es ≡ held l′) {n : ℕ} (c : n ≡ count l′) where
-      first : firstSlots n es ≡ held l′
+    module _ (es : List Entry) (e : take (count l′) es ≡ keptIn l′) {n : ℕ} (c : n ≡ count l′) where
+      first : firstSlots n es ≡ keptIn l′
       first = rw c (unpacked-first l′ es (t .good .buffer) e)
 
-      abbrev gone : Machine → Going
+      abbrev gone : Machine → UnderWay
       gone x = record {
         taken = a .cpu .clock .taken;
         left = a .left;
@@ -85,8 +86,8 @@ module _ {g : Going} {m : List ℕ} (b : Able g (length m)) {l : List ℕ} (h : 
           proceeds
 
 -- how a run begins
-pub begins : (m : Machine) (size room : ℕ) (rising : Bool) (keys budget : ℕ) {a : RunAnswer} {n i : ℕ} → a ≡ refusalOf m size room rising keys budget
+pub begins : (m : Machine) (size consoleSize : ℕ) (rising : Bool) (keys budget : ℕ) {a : RunAnswer} {n i : ℕ} → a ≡ refusalOf m size consoleSize rising keys budget
     → n ≡ allowance a budget → i ≡ leftOf (m .cpu .stop) n
-    → record { taken = m .cpu .clock .taken; left = i; ran = record { machine = m; answer = a; steps = 0 } } ≡ beginOf m size room rising keys budget
+    → record { taken = m .cpu .clock .taken; left = i; ran = record { machine = m; answer = a; steps = 0 } } ≡ beginOf m size consoleSize rising keys budget
 unfolding beginOf
-begins m size room rising keys budget p q r = rw (r, q, p)
+begins m size consoleSize rising keys budget p q r = rw (r, q, p)

@@ -5,7 +5,7 @@ use mathlib.Core.List.{List}
 use lib.ListN.{length}
 use Rattle.word.specs.Word.{if_then_else_}
 use Rattle.paging.specs.declared.Entry.{Entry}
-use Rattle.paging.specs.Translate.{buffered}
+use Rattle.mmu.specs.Translates.{Kept, translator}
 use Rattle.mmu.specs.Good.{Good}
 use Rattle.rules.specs.declared.Cpu.{Cpu}
 use Rattle.rules.specs.declared.Key.{Key}
@@ -16,16 +16,12 @@ use Rattle.rules.specs.Record.{isRunning}
 use Rattle.rules.specs.Clock.{nextOf}
 use Rattle.rules.specs.Step.{State}
 use Rattle.rules.specs.Run.{stepsOf, lastOf}
-use Rattle.outcome.specs.Contract.{stateOf}
-use Rattle.machine.specs.declared.Going.{Going as Advanced}
+use Rattle.outcome.specs.Contract.{stateOf, endOf}
+use Rattle.machine.specs.declared.Advanced.{Advanced}
 
 -- the steps that are left, none once the machine has stopped
 unfoldable pub leftOf : Stop → ℕ → ℕ
 leftOf s n = if isRunning s then n else 0
-
--- where at most n steps from a state end
-abbrev pub endOf : List Key → ℕ → State (List Entry) → State (List Entry)
-endOf ks n s = lastOf s (stepsOf buffered ks n s)
 
 -- the end of a run from the record c, with `left` steps and the next key k, is that of the run from g: at least one step was made
 pub record Goes (c : Cpu) (left : ℕ) (k : Next) (m con l : List ℕ) (g : Advanced) (m′ con′ l′ : List ℕ) : Type 0 where

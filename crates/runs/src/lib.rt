@@ -5,8 +5,8 @@ ghost use Rattle.clock.specs.Due.{KeyFits};
 ghost use Rattle.machine.specs.Advance.{Ready};
 ghost use Rattle.rules.specs.Run.{allowance};
 ghost use Rattle.runs.specs.Advance.{leftOf, Goes};
-ghost use Rattle.runs.specs.Going.{beginOf, Able, Proceeds};
-use machine::Going as Advanced;
+ghost use Rattle.runs.specs.UnderWay.{beginOf, Able, Proceeds};
+use machine::Advanced;
 use rules::Cpu;
 use rules::Machine;
 use rules::Next;
@@ -14,17 +14,17 @@ use rules::RunAnswer;
 use rules::Stop;
 
 // What a run gives: the record, its answer, and the reported steps.
-pub struct Ran {
+pub struct RunResult {
     pub machine: Machine,
     pub answer: RunAnswer,
     pub steps: u64,
 }
 
 // A run under way: the keys taken, the steps that are left, 0 once the machine has stopped, and its result so far.
-pub struct Going {
+pub struct UnderWay {
     pub taken: usize,
     pub left: u64,
-    pub ran: Ran,
+    pub ran: RunResult,
 }
 
 // The steps that are left, none once the machine has stopped.
@@ -48,20 +48,27 @@ fn allowance(a: RunAnswer, budget: u64) -> u64
 }
 
 // A run is refused, or begins.
-pub fn begin(m: Machine, size: usize, room: usize, rising: bool, keys: usize, budget: u64) -> Going
-    ensures { λ g. ⌜ g ≡ beginOf m size room rising keys budget ⌝ }
+pub fn begin(
+    m: Machine,
+    size: usize,
+    console_size: usize,
+    rising: bool,
+    keys: usize,
+    budget: u64,
+) -> UnderWay
+    ensures { λ g. ⌜ g ≡ beginOf m size console_size rising keys budget ⌝ }
 {
-    let answer = refusals::refusal(m, size, room, rising, keys, budget);
+    let answer = refusals::refusal(m, size, console_size, rising, keys, budget);
     let c = m.cpu;
     let stop = c.stop;
     let left = left_of(stop, allowance(answer, budget));
     let taken = c.clock.taken;
-    let ran = Ran {
+    let ran = RunResult {
         machine: m,
         answer,
         steps: 0,
     };
-    Going { taken, left, ran }
+    UnderWay { taken, left, ran }
 }
 
 // Steps until the next key is taken, or to the end of the run.
@@ -90,7 +97,7 @@ fn go(
 
 // A run that goes on, until its next key is taken, or to its end: its entries go into a lent array, and come back in place. The hint is told where each
 // stands. Both loops are written out here, as each pass of the record by value costs 100 instructions.
-pub fn proceed(g: Going, mem: &mut [u8], console: &mut [u8], next: Next) -> Going
+pub fn proceed(g: UnderWay, mem: &mut [u8], console: &mut [u8], next: Next) -> UnderWay
     requires { ⌜ Able g (length (now mem)) × KeyFits (next .some) (g .taken) ⌝ }
     ensures { λ r. ⌜ Proceeds g next (now (mem .entry)) (now (console .entry)) r (now (mem .exit)) (now (console .exit)) ⌝ }
 {
@@ -120,12 +127,12 @@ pub fn proceed(g: Going, mem: &mut [u8], console: &mut [u8], next: Next) -> Goin
         j += 1;
     }
     let answer = r.answer;
-    let ran = Ran {
+    let ran = RunResult {
         machine: n,
         answer,
         steps,
     };
-    Going {
+    UnderWay {
         taken: x.clock.taken,
         left: a.left,
         ran,

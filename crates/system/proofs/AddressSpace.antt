@@ -9,9 +9,9 @@ use lib.Dec.{eqb}
 use borrow.Author.Tests.{lt-ltb, le-ltb}
 use Rattle.word.specs.Word.{cut}
 use Rattle.paging.specs.TrapCode.{FMEM}
-use Rattle.buffer.specs.Held.{held, Buffer}
+use Rattle.buffer.specs.Held.{Buffer}
 use Rattle.mmu.specs.Good.{Good}
-use Rattle.mmu.specs.State.{spaceOf}
+use Rattle.mmu.specs.Translates.{spaceOf, keptIn}
 use Rattle.mmu.proofs.Laws.{good-emptied}
 use Rattle.rules.specs.declared.Cpu.{Cpu}
 use Rattle.rules.specs.Record.{withSpace}
@@ -19,20 +19,20 @@ use Rattle.rules.specs.Trap.{nextPc, faultTree}
 use Rattle.rules.specs.System.{pdirTree, spagTree}
 use Rattle.rules.specs.Step.{spaceAfter}
 use Rattle.outcome.specs.Contract.{Finishes}
-use Rattle.outcome.proofs.Steps.{finishes-turned}
+use Rattle.outcome.proofs.Steps.{finishes-space}
 use Rattle.system.specs.Moved.{movedOn}
 use Rattle.system.proofs.Choices.{finishes-then, finishes-else, at-next}
 
 module _ (c : Cpu) {m con l : List ℕ} where
   -- "PDIR: .. low twelve bits drop"
-  pub pdir-set : {n x : Cpu} {l′ : List ℕ} → held l′ ≡ [] → Buffer l′ → Good (length m) (c .space .pdir) l → c .regs .a < length m → n ≡ movedOn c
+  pub pdir-set : {n x : Cpu} {l′ : List ℕ} → keptIn l′ ≡ [] → Buffer l′ → Good (length m) (c .space .pdir) l → c .regs .a < length m → n ≡ movedOn c
       → x ≡ withSpace (spaceOf (c .space .paging) (cut 4096 (c .regs .a))) n
       → Finishes (pdirTree (length m) c (movedOn c)) c m con l x m con l′
   unfolding pdirTree spaceAfter
   pdir-set z b g h e f =
       let i : cut 4096 (c .regs .a) % 4096 ≡ 0 = omega arith in
       let j : cut 4096 (c .regs .a) < length m = omega (arith, h) in
-      finishes-then _ _ (lt-ltb _ _ h) (finishes-turned (rw e at f) z (good-emptied g i j z b))
+      finishes-then _ _ (lt-ltb _ _ h) (finishes-space (rw e at f) z (good-emptied g i j z b))
 
   -- "PDIR: a not below M is FMEM with vadr = a"
   pub pdir-fault : {n : ℕ} {x : Cpu} {m′ l′ : List ℕ} → length m ≤ c .regs .a → n ≡ nextPc c
@@ -42,8 +42,8 @@ module _ (c : Cpu) {m con l : List ℕ} where
   pdir-fault h p f = finishes-else _ _ (le-ltb _ _ h) (at-next (faultTree c (record { code = FMEM; address = c .regs .a })) c p f)
 
 -- "SPAG: paging = (a ≠ 0)"
-pub spag-set : (n : Cpu) {m con l : List ℕ} {x : Cpu} {l′ : List ℕ} → held l′ ≡ [] → Buffer l′ → Good (length m) (n .space .pdir) l
+pub spag-set : (n : Cpu) {m con l : List ℕ} {x : Cpu} {l′ : List ℕ} → keptIn l′ ≡ [] → Buffer l′ → Good (length m) (n .space .pdir) l
     → x ≡ withSpace (spaceOf (not (eqb (n .regs .a) 0)) (n .space .pdir)) n
     → Finishes (spagTree n) n m con l x m con l′
 unfolding spaceAfter
-spag-set n z b g f = finishes-turned f z (good-emptied g (g .directory .aligned) (g .directory .below) z b)
+spag-set n z b g f = finishes-space f z (good-emptied g (g .directory .aligned) (g .directory .below) z b)

@@ -18,7 +18,8 @@ use Rattle.paging.specs.declared.Space.{Space}
 use Rattle.paging.specs.TrapCode.{FMEM, FPRIV}
 use Rattle.paging.specs.Walk.{isWrite}
 use Rattle.paging.specs.Event.{Event}
-use Rattle.paging.specs.Translate.{Outcome, outcome, buffered}
+use Rattle.paging.specs.Translate.{Outcome, outcome}
+use Rattle.mmu.specs.Translates.{Kept, translator}
 use Rattle.rules.specs.declared.Cpu.{Cpu}
 use Rattle.rules.specs.declared.Stop.the-variants.{Masked, NoFrame}
 use Rattle.rules.specs.Record.{withStop, withVadr}
@@ -35,12 +36,12 @@ store-none (g ∷ gs) m = refl
 
 module _ (k : Cpu) (con : List ℕ) where
   -- where a tree's end leaves the machine
-  abbrev pub ends : Ended (List Entry) Final → State (List Entry)
-  ends e = finished buffered (k .regs .count) (k .space) (k .written) con e
+  abbrev pub ends : Ended (List Entry) Final → State Kept
+  ends e = finished translator (k .regs .count) (k .space) (k .written) con e
 
   -- where a tree leaves it, from memory m and the entries es, with writes granted before
-  abbrev pub run : Tree Final → List ℕ → List Entry → List Grant → State (List Entry)
-  run t m es gs = ends (interpret buffered (k .space) (k .system .user) t m es gs)
+  abbrev pub run : Tree Final → List ℕ → List Entry → List Grant → State Kept
+  run t m es gs = ends (interpret translator (k .space) (k .system .user) t m es gs)
 
   -- the writes granted before the tree do not count
   pub record Fresh (t : Tree Final) : Type 0 where
@@ -67,26 +68,26 @@ module _ (k : Cpu) (con : List ℕ) where
     unfolding interpret answered finished
     fresh-read = record {
       fresh = λ m es gs.
-          let o = buffered .translate (k .space) (requested Read n va (k .system .user)) m es in
+          let o = translator .translate (k .space) (requested Read n va (k .system .user)) m es in
           read-reply (o .answer) (o .mem) (o .buffer) gs;
     }
 
   -- ---- a trap frame is stored through the writes of its own two slots
   module _ (c : Cpu) (code pc : ℕ) where
-    abbrev framing : Outcome (List Entry) Replied → List Grant → State (List Entry)
+    abbrev framing : Outcome (List Entry) Replied → List Grant → State Kept
     framing o gs = run (framed c code pc (o .answer .reply)) (o .mem) (o .buffer) (o .answer .grants ++ gs)
 
     second-slot : (p : ℕ) (ev : List Event) (o : Outcome (List Entry) Answer) (a : Answer) (gs : List Grant)
-        → framing (secondSlot buffered p ev o a) gs ≡ framing (secondSlot buffered p ev o a) []
+        → framing (secondSlot translator p ev o a) gs ≡ framing (secondSlot translator p ev o a) []
     unfolding secondSlot interpret finished storeAll
     second-slot p ev o (At q) gs = rw (store-none gs)
     second-slot p ev o (Denied f) gs = fresh-final (withStop NoFrame c) none .fresh (o .mem) (o .buffer) gs
 
     first-slot : (va : ℕ) (o : Outcome (List Entry) Answer) (a : Answer) (gs : List Grant)
-        → framing (firstSlot buffered (k .space) va o a) gs ≡ framing (firstSlot buffered (k .space) va o a) []
+        → framing (firstSlot translator (k .space) va o a) gs ≡ framing (firstSlot translator (k .space) va o a) []
     unfolding firstSlot
     first-slot va o (At p) gs =
-        let t = buffered .translate (k .space) (slot va) (o .mem) (o .buffer) in
+        let t = translator .translate (k .space) (slot va) (o .mem) (o .buffer) in
         second-slot p (o .events) t (t .answer) gs
     first-slot va o (Denied f) gs = fresh-final (withStop NoFrame c) none .fresh (o .mem) (o .buffer) gs
 
@@ -94,7 +95,7 @@ module _ (k : Cpu) (con : List ℕ) where
     unfolding deliverTree interpret answered finished
     fresh-deliver = record {
       fresh = λ m es gs.
-          let o = buffered .translate (k .space) (slot (difference (kernelSp c) 8)) m es in
+          let o = translator .translate (k .space) (slot (difference (kernelSp c) 8)) m es in
           first-slot (difference (kernelSp c) 16) o (o .answer) gs;
     }
 
@@ -117,25 +118,25 @@ module _ (k : Cpu) (con : List ℕ) where
       fresh-read 4 (c .regs .sp) _ (or-fault c _ (λ code.
       fresh-read 4 (sum (c .regs .sp) 8) _ (or-fault c _ (λ pc. fresh-final (returned c code pc) none))))
 
-  fresh-privileged : (size room : ℕ) (op : SysOp) (c : Cpu) → Fresh (privilegedTree size room op c (movedOn c))
+  fresh-privileged : (size consoleSize : ℕ) (op : SysOp) (c : Cpu) → Fresh (privilegedTree size consoleSize op c (movedOn c))
   unfolding privilegedTree boutTree pdirTree
-  fresh-privileged size room Halt c = fresh-final _ none
-  fresh-privileged size room Cli c = fresh-final _ none
-  fresh-privileged size room Sti c = fresh-final _ none
-  fresh-privileged size room Rti c = fresh-rti c
-  fresh-privileged size room Bin c = fresh-final _ none
-  fresh-privileged size room Bout c = fresh-if (ltb (c .written) room) (fresh-final _ _) (fresh-final _ none)
-  fresh-privileged size room Ssp c = fresh-final _ none
-  fresh-privileged size room Ivec c = fresh-final _ none
-  fresh-privileged size room Pdir c = fresh-if (ltb (c .regs .a) size) (fresh-final _ _) (fresh-fault c _ (nextPc c))
-  fresh-privileged size room Spag c = fresh-final _ _
-  fresh-privileged size room (Time i) c = fresh-final _ none
-  fresh-privileged size room Lvad c = fresh-final _ none
-  fresh-privileged size room Lusp c = fresh-final _ none
-  fresh-privileged size room Susp c = fresh-final _ none
-  fresh-privileged size room Msiz c = fresh-final _ none
-  fresh-privileged size room Idle c = fresh-final _ none
+  fresh-privileged size consoleSize Halt c = fresh-final _ none
+  fresh-privileged size consoleSize Cli c = fresh-final _ none
+  fresh-privileged size consoleSize Sti c = fresh-final _ none
+  fresh-privileged size consoleSize Rti c = fresh-rti c
+  fresh-privileged size consoleSize Bin c = fresh-final _ none
+  fresh-privileged size consoleSize Bout c = fresh-if (ltb (c .written) consoleSize) (fresh-final _ _) (fresh-final _ none)
+  fresh-privileged size consoleSize Ssp c = fresh-final _ none
+  fresh-privileged size consoleSize Ivec c = fresh-final _ none
+  fresh-privileged size consoleSize Pdir c = fresh-if (ltb (c .regs .a) size) (fresh-final _ _) (fresh-fault c _ (nextPc c))
+  fresh-privileged size consoleSize Spag c = fresh-final _ _
+  fresh-privileged size consoleSize (Time i) c = fresh-final _ none
+  fresh-privileged size consoleSize Lvad c = fresh-final _ none
+  fresh-privileged size consoleSize Lusp c = fresh-final _ none
+  fresh-privileged size consoleSize Susp c = fresh-final _ none
+  fresh-privileged size consoleSize Msiz c = fresh-final _ none
+  fresh-privileged size consoleSize Idle c = fresh-final _ none
 
-  pub fresh-system : (size room : ℕ) (op : SysOp) (c : Cpu) → Fresh (systemTree size room op c)
+  pub fresh-system : (size consoleSize : ℕ) (op : SysOp) (c : Cpu) → Fresh (systemTree size consoleSize op c)
   unfolding systemTree
-  fresh-system size room op c = fresh-if (c .system .user) (fresh-trap c FPRIV (nextPc c)) (fresh-privileged size room op c)
+  fresh-system size consoleSize op c = fresh-if (c .system .user) (fresh-trap c FPRIV (nextPc c)) (fresh-privileged size consoleSize op c)

@@ -36,17 +36,17 @@ module _ (c : Cpu) {m con l : List ℕ} (g : Good (length m) (c .space .pdir) l)
 -- ---- the privileged instructions
 
 -- by the instruction
-pub privileged-at : (size room : ℕ) (c : Cpu) (op : SysOp) {op′ : SysOp} {m con l : List ℕ} {x : Cpu} {m′ con′ l′ : List ℕ} → op ≡ op′
-    → Finishes (privilegedTree size room op′ c (movedOn c)) c m con l x m′ con′ l′
-    → Finishes (privilegedTree size room op c (movedOn c)) c m con l x m′ con′ l′
-privileged-at size room c op {op′} {m} {con} {l} {x} {m′} {con′} {l′} e h =
-    subst (λ z. Finishes (privilegedTree size room z c (movedOn c)) c m con l x m′ con′ l′) (sym e) h
+pub privileged-at : (size consoleSize : ℕ) (c : Cpu) (op : SysOp) {op′ : SysOp} {m con l : List ℕ} {x : Cpu} {m′ con′ l′ : List ℕ} → op ≡ op′
+    → Finishes (privilegedTree size consoleSize op′ c (movedOn c)) c m con l x m′ con′ l′
+    → Finishes (privilegedTree size consoleSize op c (movedOn c)) c m con l x m′ con′ l′
+privileged-at size consoleSize c op {op′} {m} {con} {l} {x} {m′} {con′} {l′} e h =
+    subst (λ z. Finishes (privilegedTree size consoleSize z c (movedOn c)) c m con l x m′ con′ l′) (sym e) h
 
 -- ---- "TIME with imm not 0 does nothing"
 
-module _ (size room : ℕ) (c : Cpu) {m con l : List ℕ} (g : Good (length m) (c .space .pdir) l) {n x : Cpu} where
+module _ (size consoleSize : ℕ) (c : Cpu) {m con l : List ℕ} (g : Good (length m) (c .space .pdir) l) {n x : Cpu} where
   pub time-ends : (imm : ℕ) → n ≡ movedOn c → x ≡ (if eqb imm 0 then withClock (withTimeout (n .regs .a) (n .clock)) n else n)
-      → Finishes (privilegedTree size room (Time imm) c (movedOn c)) c m con l x m con l
+      → Finishes (privilegedTree size consoleSize (Time imm) c (movedOn c)) c m con l x m con l
   unfolding privilegedTree spaceAfter
   time-ends imm e f = go (eqb imm 0) (rw e at f)
     where
@@ -57,13 +57,13 @@ module _ (size room : ℕ) (c : Cpu) {m con l : List ℕ} (g : Good (length m) (
 
 -- ---- "privilege"
 
-module _ (size room : ℕ) (op : SysOp) (c : Cpu) {m con l : List ℕ} {x : Cpu} {m′ con′ l′ : List ℕ} where
+module _ (size consoleSize : ℕ) (op : SysOp) (c : Cpu) {m con l : List ℕ} {x : Cpu} {m′ con′ l′ : List ℕ} where
   pub system-denied : {n : ℕ} → c .system .user ≡ true → n ≡ nextPc c → Finishes (trapTree c FPRIV n) c m con l x m′ con′ l′
-      → Finishes (systemTree size room op c) c m con l x m′ con′ l′
+      → Finishes (systemTree size consoleSize op c) c m con l x m′ con′ l′
   unfolding systemTree
   system-denied e p h = finishes-then _ _ e (at-next (trapTree c FPRIV) c p h)
 
-  pub system-allowed : c .system .user ≡ false → Finishes (privilegedTree size room op c (movedOn c)) c m con l x m′ con′ l′
-      → Finishes (systemTree size room op c) c m con l x m′ con′ l′
+  pub system-allowed : c .system .user ≡ false → Finishes (privilegedTree size consoleSize op c (movedOn c)) c m con l x m′ con′ l′
+      → Finishes (systemTree size consoleSize op c) c m con l x m′ con′ l′
   unfolding systemTree
   system-allowed e h = finishes-else _ _ e h

@@ -11,7 +11,7 @@ use Rattle.paging.specs.declared.Answer.the-variants.{At, Denied}
 use Rattle.paging.specs.declared.Fault.{Fault}
 use Rattle.paging.specs.TrapCode.{USER}
 use Rattle.paging.specs.Walk.{bit}
-use Rattle.mmu.specs.State.{Translates}
+use Rattle.mmu.specs.Translates.{Translates}
 use Rattle.rules.specs.declared.Cpu.{Cpu}
 use Rattle.rules.specs.Record.{setPc, setSp, withRegs, withSystem, withIena}
 use Rattle.rules.specs.Tree.{ask, access, requested}

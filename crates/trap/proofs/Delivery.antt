@@ -10,7 +10,7 @@ use Rattle.paging.specs.declared.Answer.{Answer}
 use Rattle.paging.specs.declared.Answer.the-variants.{At, Denied}
 use Rattle.paging.specs.declared.Fault.{Fault}
 use Rattle.mmu.specs.Good.{Good}
-use Rattle.mmu.specs.State.{Translates}
+use Rattle.mmu.specs.Translates.{Translates}
 use Rattle.rules.specs.declared.Cpu.{Cpu}
 use Rattle.rules.specs.declared.Stop.the-variants.{Masked, NoFrame}
 use Rattle.rules.specs.Record.{withStop, withVadr}

@@ -46,13 +46,13 @@ pub record Accepted (m : Machine) (size budget : ℕ) : Type 0 where
   pub entries : bufferOk size (entriesOf m) ≡ true
   pub most : budget ≤ 1000000
 
-pub accepted-record : (m : Machine) (size room : ℕ) (rising : Bool) (keys budget : ℕ) → isAccepted (refusalOf m size room rising keys budget) ≡ true
+pub accepted-record : (m : Machine) (size consoleSize : ℕ) (rising : Bool) (keys budget : ℕ) → isAccepted (refusalOf m size consoleSize rising keys budget) ≡ true
     → Accepted m size budget
 unfolding refusalOf
-accepted-record m size room rising keys budget e =
+accepted-record m size consoleSize rising keys budget e =
     let t =
     accepted-tests (sizeOk size) (registersOk size (m .cpu)) (bufferOk size (entriesOf m)) (rising && leb (m .cpu .clock .taken) keys)
-    (leb (m .cpu .written) room) (budgetOk budget) e in
+    (leb (m .cpu .written) consoleSize) (budgetOk budget) e in
     record {
       directory = directory-in size (m .cpu) (t .0) (t .1);
       count = count-below size (m .cpu) (t .1);

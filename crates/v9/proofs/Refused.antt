@@ -15,7 +15,7 @@ use Rattle.rules.specs.Step.{State}
 use Rattle.rules.specs.Run.{runNumber, isAccepted, run, reported}
 use Rattle.rules.proofs.NoSteps.{NoSteps, refused-run, stopped-run, unbudgeted-run}
 use Rattle.refusals.specs.View.{viewOf}
-use Rattle.runs.specs.declared.Ran.{Ran}
+use Rattle.runs.specs.declared.RunResult.{RunResult}
 use Rattle.v9.specs.Contract.{RunsAs, StepsAs}
 
 -- the record x is the one given, its slots included, and memory and console are as they were
@@ -36,7 +36,7 @@ refusing BadBudget h = refl
 
 -- ---- `v9::run`, `v9::run_packed`
 
-module _ {ks : List Key} {budget : ℕ} {m : Machine} {mem con : List ℕ} {g : Ran} {mem′ con′ : List ℕ} (r : RunsAs ks budget m mem con g mem′ con′) where
+module _ {ks : List Key} {budget : ℕ} {m : Machine} {mem con : List ℕ} {g : RunResult} {mem′ con′ : List ℕ} (r : RunsAs ks budget m mem con g mem′ con′) where
   -- where the rules make no step
   unchanged : NoSteps buffered ks budget (viewOf m mem con) → (g .steps ≡ 0) × Unchanged m mem con (g .machine) mem′ con′
   unchanged o =

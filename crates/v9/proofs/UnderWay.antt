@@ -21,16 +21,17 @@ use Rattle.rules.specs.Run.{keysRise, keysOk, isAccepted, allowance, runNumber,
 use Rattle.rules.proofs.StepCount.{run-count}
 use Rattle.refusals.specs.View.{viewOf}
 use Rattle.refusals.specs.Refusal.{refusalOf}
-use Rattle.runs.specs.declared.Going.{Going}
-use Rattle.runs.specs.declared.Ran.{Ran}
-use Rattle.runs.specs.Advance.{leftOf, endOf}
-use Rattle.runs.specs.Going.{beginOf, outcome, Able, Proceeds}
+use Rattle.runs.specs.declared.UnderWay.{UnderWay}
+use Rattle.runs.specs.declared.RunResult.{RunResult}
+use Rattle.runs.specs.Advance.{leftOf}
+use Rattle.runs.specs.UnderWay.{beginOf, outcome, Able, Proceeds}
 use Rattle.runs.proofs.Left.{left-least, left-running, end-left}
 use Rattle.v9.specs.Contract.{RunsAs, StepsAs}
 use Rattle.v9.proofs.Accepted.{accepted-record, allowance-some, allowance-most}
+use Rattle.outcome.specs.Contract.{endOf}
 
 -- the run under way g, with memory mem′ and console con′, is one from the record m with keys ks and a budget, with mem and con
-pub record UnderWay (ks : List Key) (budget : ℕ) (m : Machine) (mem con : List ℕ) (g : Going) (mem′ con′ : List ℕ) : Type 0 where
+pub record UnderWay (ks : List Key) (budget : ℕ) (m : Machine) (mem con : List ℕ) (g : UnderWay) (mem′ con′ : List ℕ) : Type 0 where
   pub able : 0 < g .left → Able g (length mem′)
   pub answer : g .ran .answer ≡ run buffered ks budget (viewOf m mem con) .answer
   pub steps : g .ran .machine .cpu .regs .count ≡ m .cpu .regs .count + g .ran .steps
@@ -59,7 +60,7 @@ module _ (ks : List Key) (budget : ℕ) (m : Machine) (mem con : List ℕ) where
   abbrev first-answer : RunAnswer
   first-answer = refusalOf m (length mem) (length con) (keysRise 0 ks) (length ks) budget
 
-  abbrev begun : Going
+  abbrev begun : UnderWay
   begun = beginOf m (length mem) (length con) (keysRise 0 ks) (length ks) budget
 
   answers : first-answer ≡ runAnswer buffered ks budget start
@@ -92,8 +93,8 @@ module _ (ks : List Key) (budget : ℕ) (m : Machine) (mem con : List ℕ) where
     state = sym (end-left ks (allowance first-answer budget) start) ∙ ap (λ (a : RunAnswer). endOf ks (allowance a budget) start) answers;
   }
 
-  module _ {g : Going} {mem′ con′ : List ℕ} (u : UnderWay ks budget m mem con g mem′ con′) where
-    pub under-next : {k : Next} {r : Going} {mem″ con″ : List ℕ} → k ≡ nextOf ks (g .taken) → Proceeds g k mem′ con′ r mem″ con″
+  module _ {g : UnderWay} {mem′ con′ : List ℕ} (u : UnderWay ks budget m mem con g mem′ con′) where
+    pub under-next : {k : Next} {r : UnderWay} {mem″ con″ : List ℕ} → k ≡ nextOf ks (g .taken) → Proceeds g k mem′ con′ r mem″ con″
         → UnderWay ks budget m mem con r mem″ con″
     under-next {r = r} q p = record {
       able = p .able;
@@ -119,31 +120,31 @@ module _ (ks : List Key) (budget : ℕ) (m : Machine) (mem con : List ℕ) where
         counted = ap (λ (s : State (List Entry)). s .cpu .regs .count) state ∙ run-count buffered ks budget start
 
   -- the same of a run that the code began
-  module _ {rising : Bool} {n : ℕ} (p : rising ≡ keysRise 0 ks) (q : n ≡ length ks) {g : Going} (e : g ≡ beginOf m (length mem) (length con) rising n budget) where
+  module _ {rising : Bool} {n : ℕ} (p : rising ≡ keysRise 0 ks) (q : n ≡ length ks) {g : UnderWay} (e : g ≡ beginOf m (length mem) (length con) rising n budget) where
     as-begun : g ≡ begun
     as-begun = e ∙ ap (λ (b : Bool). beginOf m (length mem) (length con) b n budget) p ∙ ap (λ (i : ℕ). beginOf m (length mem) (length con) (keysRise 0 ks) i budget) q
 
     pub first-machine : g .ran .machine ≡ m
     unfolding beginOf
-    first-machine = ap (λ (x : Going). x .ran .machine) as-begun
+    first-machine = ap (λ (x : UnderWay). x .ran .machine) as-begun
 
     pub under-first : UnderWay ks budget m mem con g mem con
-    under-first = subst (λ (x : Going). UnderWay ks budget m mem con x mem con) (sym as-begun) begun-under
+    under-first = subst (λ (x : UnderWay). UnderWay ks budget m mem con x mem con) (sym as-begun) begun-under
 
 -- of a run whose record stands only in its first stage g
-module _ (ks : List Key) (budget : ℕ) (m : Machine) (mem con : List ℕ) {rising : Bool} {n : ℕ} (p : rising ≡ keysRise 0 ks) (q : n ≡ length ks) {g : Going}
+module _ (ks : List Key) (budget : ℕ) (m : Machine) (mem con : List ℕ) {rising : Bool} {n : ℕ} (p : rising ≡ keysRise 0 ks) (q : n ≡ length ks) {g : UnderWay}
     (e : g ≡ beginOf m (length mem) (length con) rising n budget) where
   pub under-start : UnderWay ks budget (g .ran .machine) mem con g mem con
   under-start = subst (λ (x : Machine). UnderWay ks budget x mem con g mem con) (sym (first-machine ks budget m mem con p q e)) (under-first ks budget m mem con p q e)
 
-  pub under-end : {r : Going} {mem′ con′ : List ℕ} → UnderWay ks budget (g .ran .machine) mem con r mem′ con′ → r .left ≤ 0
+  pub under-end : {r : UnderWay} {mem′ con′ : List ℕ} → UnderWay ks budget (g .ran .machine) mem con r mem′ con′ → r .left ≤ 0
       → RunsAs ks budget m mem con (r .ran) mem′ con′
   under-end {r} {mem′} {con′} u h =
       subst (λ (x : Machine). RunsAs ks budget x mem con (r .ran) mem′ con′) (first-machine ks budget m mem con p q e)
       (under-last ks budget (g .ran .machine) mem con u h)
 
 -- the single step, from what its run gave
-pub steps-once : {ks : List Key} {m : Machine} {mem con : List ℕ} {r : Ran} {y : Machine} {i : ℕ} {mem′ con′ : List ℕ}
+pub steps-once : {ks : List Key} {m : Machine} {mem con : List ℕ} {r : RunResult} {y : Machine} {i : ℕ} {mem′ con′ : List ℕ}
     → RunsAs ks 1 m mem con r mem′ con′ → y ≡ r .machine → i ≡ runNumber (r .answer) → StepsAs ks m mem con i y mem′ con′
 steps-once {mem′ = mem′} {con′ = con′} t p q = record {
   number = q ∙ t .number;

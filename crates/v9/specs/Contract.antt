@@ -7,11 +7,11 @@ use Rattle.rules.specs.declared.Key.{Key}
 use Rattle.rules.specs.declared.Machine.{Machine}
 use Rattle.rules.specs.Run.{runNumber, run, reported}
 use Rattle.refusals.specs.View.{viewOf}
-use Rattle.runs.specs.declared.Ran.{Ran}
+use Rattle.runs.specs.declared.RunResult.{RunResult}
 
 -- a run of the record m, with keys ks and a budget, from memory `mem` and console `con`, gave r and left mem′ and con′, all as the rules say. Free is only
 -- what the slots past the count hold after a step
-pub record RunsAs (ks : List Key) (budget : ℕ) (m : Machine) (mem con : List ℕ) (r : Ran) (mem′ con′ : List ℕ) : Type 0 where
+pub record RunsAs (ks : List Key) (budget : ℕ) (m : Machine) (mem con : List ℕ) (r : RunResult) (mem′ con′ : List ℕ) : Type 0 where
   pub number : runNumber (r .answer) ≡ runNumber (run buffered ks budget (viewOf m mem con) .answer)
   pub answer : r .answer ≡ run buffered ks budget (viewOf m mem con) .answer
   pub steps : r .steps ≡ reported (run buffered ks budget (viewOf m mem con))

@@ -5,10 +5,16 @@ ghost use Rattle.keys.specs.Packed.{unpacked};
 ghost use Rattle.v9.specs.Contract.{RunsAs, StepsAs};
 use rules::Key;
 use rules::Machine;
-use runs::Ran;
+use runs::RunResult;
 
 // A run with packed keys: nine bytes a key, eight of its step number, the lowest first, and its byte.
-pub fn run_packed(m: Machine, mem: &mut [u8], console: &mut [u8], keys: &[u8], budget: u64) -> Ran
+pub fn run_packed(
+    m: Machine,
+    mem: &mut [u8],
+    console: &mut [u8],
+    keys: &[u8],
+    budget: u64,
+) -> RunResult
     ensures { λ r. ⌜ RunsAs (unpacked (now (keys .entry))) budget m (now (mem .entry)) (now (console .entry)) r (now (mem .exit)) (now (console .exit)) ⌝ }
 {
     let rising = keys::rising_packed(keys);
@@ -21,7 +27,7 @@ pub fn run_packed(m: Machine, mem: &mut [u8], console: &mut [u8], keys: &[u8], b
 }
 
 // A run.
-pub fn run(m: Machine, mem: &mut [u8], console: &mut [u8], keys: &[Key], budget: u64) -> Ran
+pub fn run(m: Machine, mem: &mut [u8], console: &mut [u8], keys: &[Key], budget: u64) -> RunResult
     ensures { λ r. ⌜ RunsAs (now (keys .entry)) budget m (now (mem .entry)) (now (console .entry)) r (now (mem .exit)) (now (console .exit)) ⌝ }
 {
     let rising = keys::rising(keys);
@@ -39,7 +45,7 @@ pub struct Numbered {
     pub number: u32,
 }
 
-fn number_of(r: Ran) -> Numbered
+fn number_of(r: RunResult) -> Numbered
     ensures { λ s. ⌜ (s .machine ≡ r .machine) × (s .number ≡ runNumber (r .answer)) ⌝ }
 {
     let a = r.answer;

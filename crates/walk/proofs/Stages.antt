@@ -12,7 +12,7 @@ use Rattle.paging.specs.TrapCode.{FMEM, pageFault}
 use Rattle.paging.specs.Walk.{bit, mark, markFor, allows, walkFrame, walkTable, walkBelow, walkDir, walk, dirAt, tabAt}
 use Rattle.walk.specs.declared.PageWalk.{PageWalk}
 use Rattle.walk.specs.declared.PageWalk.the-variants.{Mapped, Faulted}
-use Rattle.walk.specs.Found.{foundBy, walked, walkedBy, FrameWalk, TableWalk}
+use Rattle.walk.specs.Found.{foundBy, walkResult, walkedBy, FrameWalk, TableWalk}
 use Rattle.walk.proofs.Marks.{length-mark, length-mark-for}
 
 -- ---- the frame, in a memory with the marks
@@ -42,16 +42,16 @@ module _ (m : List ℕ) (dir at : ℕ) (k : Access) (user : Bool) {t : ℕ} {ok 
 
 module _ (m : List ℕ) (pdir page : ℕ) (k : Access) (user : Bool) {d : ℕ} {ok : Bool}
     (p : d ≡ loadN 4 m (pdir + 4 * (page / 1024))) (q : ok ≡ bit 1 d) where
-  pub dir-absent : {c : ℕ} → ok ≡ false → c ≡ pageFault k → walked (Faulted c) m ≡ walkedBy (walk m pdir page k user)
+  pub dir-absent : {c : ℕ} → ok ≡ false → c ≡ pageFault k → walkResult (Faulted c) m ≡ walkedBy (walk m pdir page k user)
   unfolding walkedBy foundBy walk walkDir dirAt
   dir-absent e c = rw (← p, ← q, e, c)
 
   module _ {m′ : List ℕ} (e : ok ≡ true) (g : m′ ≡ mark 32 m (pdir + 4 * (page / 1024))) where
-    pub dir-beyond : length m′ ≤ cut 4096 d → walked (Faulted FMEM) m′ ≡ walkedBy (walk m pdir page k user)
+    pub dir-beyond : length m′ ≤ cut 4096 d → walkResult (Faulted FMEM) m′ ≡ walkedBy (walk m pdir page k user)
     unfolding walkedBy foundBy walk walkDir walkBelow dirAt
     dir-beyond l = rw (← p, ← q, e, ← length-mark m (pdir + 4 * (page / 1024)) 32, ← g, le-ltb _ _ l)
 
     pub dir-present : {r : PageWalk} {m″ : List ℕ} → cut 4096 d < length m′
-        → TableWalk d (cut 4096 d + 4 * (page % 1024)) k user m′ r m″ → walked r m″ ≡ walkedBy (walk m pdir page k user)
+        → TableWalk d (cut 4096 d + 4 * (page % 1024)) k user m′ r m″ → walkResult r m″ ≡ walkedBy (walk m pdir page k user)
     unfolding walk walkDir walkBelow dirAt tabAt
     dir-present l h = rw (← p, ← q, e, ← length-mark m (pdir + 4 * (page / 1024)) 32, ← g, lt-ltb _ _ l) (h _ _)

@@ -24,24 +24,24 @@ foundBy (fault c) = Faulted c
 foundBy (found f u w da ta) = Mapped f u w
 
 -- a finding with the memory after it
-pub record Walked : Type 0 where
+pub record WalkResult : Type 0 where
   pub answer : PageWalk
   pub mem : List ℕ
 
-abbrev pub walked : PageWalk → List ℕ → Walked
-walked r m = record { answer = r; mem = m }
+abbrev pub walkResult : PageWalk → List ℕ → WalkResult
+walkResult r m = record { answer = r; mem = m }
 
 -- a walk of the rules, without its events
-unfoldable pub walkedBy : Walk.Walked → Walked
+unfoldable pub walkedBy : Walk.WalkResult → WalkResult
 unfolding foundBy
-walkedBy w = walked (foundBy (w .found)) (w .mem)
+walkedBy w = walkResult (foundBy (w .found)) (w .mem)
 
 -- the walk from the marked table word at `at` on, and from the table word at `at` on, give what the rules say, whichever events came before
 -- and wherever the directory word is
 abbrev pub FrameWalk : (dir table at : ℕ) → List ℕ → PageWalk → Type 0
 FrameWalk dir table at m r =
-    (es : List Event) (da : ℕ) → walked r m ≡ walkedBy (walkFrame (ltb (cut 4096 table) (length m)) es m dir table da at)
+    (es : List Event) (da : ℕ) → walkResult r m ≡ walkedBy (walkFrame (ltb (cut 4096 table) (length m)) es m dir table da at)
 
 abbrev pub TableWalk : (dir at : ℕ) → Access → Bool → List ℕ → PageWalk → List ℕ → Type 0
 TableWalk dir at k user m r m′ =
-    (es : List Event) (da : ℕ) → walked r m′ ≡ walkedBy (walkTable (allows dir (loadN 4 m at) k user) es m dir (loadN 4 m at) da at k)
+    (es : List Event) (da : ℕ) → walkResult r m′ ≡ walkedBy (walkTable (allows dir (loadN 4 m at) k user) es m dir (loadN 4 m at) da at k)

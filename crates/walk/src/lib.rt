@@ -6,7 +6,7 @@ ghost use lib.ListN.{length};
 ghost use Rattle.paging.specs.TrapCode.{pageFault};
 ghost use Rattle.paging.specs.Walk.{bit, mark, markFor, userOk, writeOk, allows, walk};
 ghost use Rattle.walk.specs.Directory.{Directory};
-ghost use Rattle.walk.specs.Found.{isMark, walked, walkedBy, FrameWalk, TableWalk};
+ghost use Rattle.walk.specs.Found.{isMark, walkResult, walkedBy, FrameWalk, TableWalk};
 use paging::Access;
 
 // What a page table walk finds.
@@ -113,7 +113,7 @@ fn walk_table(mem: &mut [u8], at: usize, dir: u32, kind: Access, user: bool) -> 
 // The walk of a page's tables from pdir.
 pub fn walk(mem: &mut [u8], pdir: u32, page: u32, kind: Access, user: bool) -> PageWalk
     requires { ⌜ Directory (length (now mem)) pdir × (page < 1048576) ⌝ }
-    ensures { λ r. ⌜ walked r (now (mem .exit)) ≡ walkedBy (walk (now (mem .entry)) pdir page kind user) ⌝ }
+    ensures { λ r. ⌜ walkResult r (now (mem .exit)) ≡ walkedBy (walk (now (mem .entry)) pdir page kind user) ⌝ }
 {
     let dir_at = (pdir + 4 * (page / 1024)) as usize;
     let dir = memory::load4(mem, dir_at);

@@ -6,13 +6,13 @@ use mathlib.Core.Path.{_≡_, sym}
 use mathlib.Core.Path.{sym}
 use borrow.Author.Needs.{needs}
 use Rattle.buffer.proofs.Search.{Passed, search-here, search-next, search-end}
-use Rattle.buffer.specs.Held.{count, held}
-use Rattle.buffer.specs.Held.{held}
+use Rattle.buffer.specs.Held.{count, entriesIn}
+use Rattle.buffer.specs.Held.{entriesIn}
 use Rattle.buffer.proofs.lookup.Statement.{statement}
 use Rattle.buffer.proofs.lookup.Tie as tie
 
 abbrev Inv-loop : tie.InvT-loop
-Inv-loop tlb page n i₀ i = (i ≤ n) × ((n ≡ count tlb) × Passed page (held tlb) i)
+Inv-loop tlb page n i₀ i = (i ≤ n) × ((n ≡ count tlb) × Passed page (entriesIn tlb) i)
 
 abbrev μ-loop : tie.MeasureT-loop
 μ-loop tlb page n i₀ i = n - i

@@ -41,7 +41,7 @@ use denote.Triple.Walked.{needs, Stays, stay-none, gave-slice, walkOf, goes-none
 use denote.Exit.{yes}
 use Rattle.rules.specs.declared.Key.{Key}
 use Rattle.rules.specs.declared.Machine.{Machine}
-use Rattle.runs.specs.declared.Ran.{Ran}
+use Rattle.runs.specs.declared.RunResult.{RunResult}
 use Rattle.by_value.proofs.Ended.{ensures-nothing}
 use Rattle.by_value.proofs.LentRecord.{mach}
 use Rattle.by_value.proofs.LentKeys.{keysTy, machKeys, first, Kept, lends-keys, keys-back}
@@ -49,8 +49,8 @@ use Rattle.rules.proofs.Key as K
 use Rattle.rules.proofs.Key.Laws as K′
 use Rattle.rules.proofs.Machine as T
 use Rattle.rules.proofs.Machine.Laws as T′
-use Rattle.runs.proofs.Ran as R
-use Rattle.runs.proofs.Ran.Laws as R′
+use Rattle.runs.proofs.RunResult as R
+use Rattle.runs.proofs.RunResult.Laws as R′
 use Rattle.v9.proofs.run as callee
 use Rattle.v9.proofs.run.Symbol as run-def
 use Rattle.v9.proofs.run.Symbol.{name as #v9·run}
@@ -63,7 +63,7 @@ use Rattle.by_value.proofs.run.Code as code
 abbrev stayed : Stays (f.ended .signature .params) (f.ended .kept)
 stayed = (stay-none (λ _. T.the-row) yes, (gave-slice (0 ∷ []) tt (plain (λ _. u8)), (gave-slice (1 ∷ []) tt (plain (λ _. u8)), (stay-none (λ _. Array K.the-row 64) yes, (stay-none (λ _. u64) yes, (stay-none (λ _. u64) yes, tt))))))
 
-abbrev machR : Ran → Val
+abbrev machR : RunResult → Val
 machR r = LL.tuple-val R.the-type R′.the-laws (R.the-type .to r)
 
 -- the contract that the proof cites
@@ -92,7 +92,7 @@ module _ {M : Type 1} (𝓤 : URA M) (H : Heap 𝓤) (A : Atoms 𝓤) (W : Given
   abbrev Post : Val → SProp 𝓤
   Post = walkOf 𝓤 H A f.ended stayed (f.clauses 𝓤 H A at-mem run) .post (((κm, (κc, tt)), (qm, (qc, tt)), tt, a, at), tt)
 
-  exits : (r : Ran) (zm zc : List ℕ) → length zm ≡ length (xm .now) → length zc ≡ length (xc .now) → Is R.the-row r (machR r ∷ [])
+  exits : (r : RunResult) (zm zc : List ℕ) → length zm ≡ length (xm .now) → length zc ≡ length (xc .now) → Is R.the-row r (machR r ∷ [])
       → ent 𝓤 (⋆ 𝓤 H A (‵ (flft κm qm) ∷ ‵ (flft κc qc) ∷ ‵ (finally u8 (xm .name) zm) ∷ ‵ (finally u8 (xc .name) zc) ∷ [])) (Post (machR r))
   exits r zm zc lm lc is =
       qed W (‵ (flft κm qm) ∷ ‵ (flft κc qc) ∷ ‵ (finally u8 (xm .name) zm) ∷ ‵ (finally u8 (xc .name) zc) ∷ []) ∵
@@ -129,7 +129,7 @@ module _ {M : Type 1} (𝓤 : URA M) (H : Heap 𝓤) (A : Atoms 𝓤) (W : Given
     Last = Unit {0} × (List ℕ × (List ℕ × (Unit {0} × (Unit {0} × Unit {0}))))
 
     -- of what `run` ensures, the lengths of memory and console are kept
-    left : (r : Ran) → ent 𝓤 (ensured 𝓤 H A callee.ended (callee.clauses 𝓤 H A at-mem run) (κm, (κc, (α ∷ [], tt))) passed tt r) (ex 𝓤 (λ (zs : Last). sem 𝓤 H A (lasts callee.ended (κm, (κc, (α ∷ [], tt))) passed zs)))
+    left : (r : RunResult) → ent 𝓤 (ensured 𝓤 H A callee.ended (callee.clauses 𝓤 H A at-mem run) (κm, (κc, (α ∷ [], tt))) passed tt r) (ex 𝓤 (λ (zs : Last). sem 𝓤 H A (lasts callee.ended (κm, (κc, (α ∷ [], tt))) passed zs)))
     left r = exE 𝓤 _ (λ zs. via 𝓤 _ (fst∗ 𝓤 _ (callee.clauses 𝓤 H A at-mem run (κm, (κc, (α ∷ [], tt))) passed .ensures tt r (atExit callee.ended (κm, (κc, (α ∷ [], tt))) passed zs)))
         (exI 𝓤 (λ (ws : Last). sem 𝓤 H A (lasts callee.ended (κm, (κc, (α ∷ [], tt))) passed ws)) zs))
 
@@ -162,7 +162,7 @@ module _ {M : Type 1} (𝓤 : URA M) (H : Heap 𝓤) (A : Atoms 𝓤) (W : Given
         use2 W (raw (Run 𝓤 H A at-mem run .pre (to-run l₇ α γ))) (asked l₇ α γ) $
         -- [the call's; what the lender keeps; _13; …; _8; …; _7's end; _6; …; .. ; _0; …]
         calls-at ! fm (Run 𝓤 H A at-mem run) known (to-run l₇ α γ) (and-then ! (load ! (from ! (stop !)) (look ! 25 refl)) (and-then ! (load ! (from ! (stop !)) (look ! 10 refl)) (and-then ! (load ! (from ! (stop !)) (look ! 6 refl)) (and-then ! (load ! (from ! (stop !)) (look ! 2 refl)) (and-then ! (load ! (from ! (stop !)) (look ! 15 refl)) (no-more !)))))) (λ w.
-        use1 W (later (some (λ (r : Ran). (Tokens l₇ α γ ⊛ ‵ (R.the-row .own r (w ∷ []))) ⊛ raw (ensured 𝓤 H A callee.ended (callee.clauses 𝓤 H A at-mem run) (κm, (κc, (α ∷ [], tt))) (passed l₇ α γ) tt r)))) (id⊢ 𝓤 _) $ await ! tt $ pick ! (λ r.
+        use1 W (later (some (λ (r : RunResult). (Tokens l₇ α γ ⊛ ‵ (R.the-row .own r (w ∷ []))) ⊛ raw (ensured 𝓤 H A callee.ended (callee.clauses 𝓤 H A at-mem run) (κm, (κc, (α ∷ [], tt))) (passed l₇ α γ) tt r)))) (id⊢ 𝓤 _) $ await ! tt $ pick ! (λ r.
         split ! $ move ! (1 ∷ []) $ use1 W (some (λ (zs : Last l₇ α γ). ‵ (lasts callee.ended (κm, (κc, (α ∷ [], tt))) (passed l₇ α γ) zs))) (left l₇ α γ r) $ pick ! (λ zs.
         fsplit ! $ drop ! $ fsplit ! $ fsplit ! $ move ! (1 ∷ []) $ feqL ! (λ lm. move ! (1 ∷ []) $ fsplit ! $ fsplit ! $ move ! (1 ∷ []) $ feqL ! (λ lc.
         -- [the console's last list; …; memory's; the tokens and the result; what the lender keeps; _13; …]

@@ -35,8 +35,8 @@ instructions-requires c κs =
     let pre = c .before .before .before .before .before .before .before .before .before .pre in
     ((pre .0 .good, omega arith), (refl, refl))
 
-counted-requires : tie.Need-counted-requires
-counted-requires c κs =
+raise_count-requires : tie.Need-raise_count-requires
+raise_count-requires c κs =
     let instructions = c .before .before .before .before .before .before .instructions in
     let steps = c .before .before .before .before .before .before .before .before .before .before .before .before .steps in
     let pre = c .before .before .before .before .before .before .before .before .before .before .before .before .before .before .before .before .pre in
@@ -47,7 +47,7 @@ after-requires c κs =
     let steps = c .before .before .before .before .before .before .before .before .before .before .before .before .before .steps in
     let if1 = c .before .before .before .before .before .before .before .before .before .before .before .before .if1 in
     let instructions = c .before .before .before .before .before .before .before .instructions in
-    rw (c .counted .ensures) (early-room _ _ _ (steps .ensures) (omega (arith, if1 .left)) (instructions .ensures) (not-ok _ (c .before .match .keys2)))
+    rw (c .raise_count .ensures) (early-room _ _ _ (steps .ensures) (omega (arith, if1 .left)) (instructions .ensures) (not-ok _ (c .before .match .keys2)))
 
 settle-requires : tie.Need-settle-requires
 settle-requires c κs =
@@ -90,14 +90,14 @@ returns-2 : tie.Need-returns-2
 returns-2 c =
     let after = c .before .before .before .before .before .before .before .before .before .before .before .before .before .after in
     let given = c .before .before .before .before .before .before .before .before .before .before .before .before .before .before .before .before .before .before .before .before .before .before .before .before .before .before .before .before .before .before .before .args in
-    let counted = c .before .before .before .before .before .before .before .before .before .before .before .before .before .before .counted in
+    let raiseCount = c .before .before .before .before .before .before .before .before .before .before .before .before .before .before .raise_count in
     let pre = c .before .before .before .before .before .before .before .before .before .before .before .before .before .before .before .before .before .before .before .before .before .before .before .before .before .before .before .before .before .before .before .pre in
     let steps = c .before .before .before .before .before .before .before .before .before .before .before .before .before .before .before .before .before .before .before .before .before .before .before .before .before .before .before .steps in
     let if1 = c .before .before .before .before .before .before .before .before .before .before .before .before .before .before .before .before .before .before .before .before .before .before .before .before .before .before .if1 in
     let instructions = c .before .before .before .before .before .before .before .before .before .before .before .before .before .before .before .before .before .before .before .before .before .instructions in
     let met = c .before .before .before .before .before .before .before .before .before .before .before .before .before .before .before .match in
     let settle = c .before .before .before .before .before .before .before .before .settle in
-    let quiet = after .ensures ∙ ap (λ (q : Regs). afterQuiet (given .c) q) (counted .ensures) in
+    let quiet = after .ensures ∙ ap (λ (q : Regs). afterQuiet (given .c) q) (raiseCount .ensures) in
     advance-early _ _ _ (pre .0) (steps .ensures) (omega (arith, if1 .left)) (instructions .ensures) (not-ok _ (met .keys2)) quiet
     (instructions .kept .1 .1 .1 .1 .0) (settle .ensures) (settle .kept .1 .1 .0)
 
@@ -136,7 +136,7 @@ advance-spec =
     add-instructions
     instructions-requires
     (λ c. search needs)
-    counted-requires
+    raise_count-requires
     after-requires
     settle-requires
     sub-t39

@@ -50,9 +50,9 @@ use Rattle.rules.specs.declared.Next.{Next}
 use Rattle.rules.specs.declared.Machine.{Machine}
 use Rattle.rules.specs.Clock.{nextOf}
 use Rattle.rules.specs.Run.{keysRise}
-use Rattle.runs.specs.declared.Ran.{Ran}
-use Rattle.runs.specs.declared.Going.{Going}
-use Rattle.runs.specs.Going.{beginOf, Able, Proceeds}
+use Rattle.runs.specs.declared.RunResult.{RunResult}
+use Rattle.runs.specs.declared.UnderWay.{UnderWay}
+use Rattle.runs.specs.UnderWay.{beginOf, Able, Proceeds}
 use Rattle.clock.specs.Due.{KeyFits}
 use Rattle.v9.specs.Contract.{RunsAs}
 use Rattle.v9.proofs.UnderWay.{UnderWay, key-fits, under-first, under-next, under-last}
@@ -62,10 +62,10 @@ use Rattle.rules.proofs.Next as N
 use Rattle.rules.proofs.Next.Laws as N′
 use Rattle.rules.proofs.Machine as T
 use Rattle.rules.proofs.Machine.Laws as T′
-use Rattle.runs.proofs.Ran as R
-use Rattle.runs.proofs.Ran.Laws as R′
-use Rattle.runs.proofs.Going as G
-use Rattle.runs.proofs.Going.Laws as G′
+use Rattle.runs.proofs.RunResult as R
+use Rattle.runs.proofs.RunResult.Laws as R′
+use Rattle.runs.proofs.UnderWay as G
+use Rattle.runs.proofs.UnderWay.Laws as G′
 use Rattle.keys.proofs.rising as rising
 use Rattle.keys.proofs.rising.Symbol as rising-def
 use Rattle.keys.proofs.rising.Symbol.{name as #keys·rising}
@@ -108,10 +108,10 @@ machM h = LL.tuple-val T.the-type T′.the-laws (T.the-type .to h)
 abbrev machN : Next → Val
 machN n = LL.tuple-val N.the-type N′.the-laws (N.the-type .to n)
 
-abbrev machR : Ran → Val
+abbrev machR : RunResult → Val
 machR r = LL.tuple-val R.the-type R′.the-laws (R.the-type .to r)
 
-abbrev machG : Going → Val
+abbrev machG : UnderWay → Val
 machG g = LL.tuple-val G.the-type G′.the-laws (G.the-type .to g)
 
 -- the contracts that the proof cites
@@ -170,7 +170,7 @@ module _ {M : Type 1} (𝓤 : URA M) (H : Heap 𝓤) (A : Atoms 𝓤) (W : Given
   abbrev Keys : Item 𝓤
   Keys = ‵ (ShrSlice (named 2) κk K.the-row .own xk (sk ∷ []))
 
-  exits : (r : Ran) (zs ds : List ℕ) → RunsAs ks budget h ys cs r zs ds → length zs ≡ length ys → length ds ≡ length cs → Is R.the-row r (machR r ∷ [])
+  exits : (r : RunResult) (zs ds : List ℕ) → RunsAs ks budget h ys cs r zs ds → length zs ≡ length ys → length ds ≡ length cs → Is R.the-row r (machR r ∷ [])
       → ent 𝓤 (⋆ 𝓤 H A (‵ (flft κm qm) ∷ ‵ (flft κc qc) ∷ ‵ (flft κk qk) ∷ Mem zs ∷ Con ds ∷ Keys ∷ [])) (Post (machR r))
   exits r zs ds e lz ld is =
       qed W (‵ (flft κm qm) ∷ ‵ (flft κc qc) ∷ ‵ (flft κk qk) ∷ Mem zs ∷ Con ds ∷ Keys ∷ []) ∵
@@ -201,7 +201,7 @@ module _ {M : Type 1} (𝓤 : URA M) (H : Heap 𝓤) (A : Atoms 𝓤) (W : Given
       owned ! Boolean (Is Boolean) (bool-makes 𝓤 H A W) s _ refl $ fjoin ! $ owned ! usize (Is usize) (uint-makes 𝓤 H A W w64) (length cs) _ (refl, gc) $ fjoin ! $ owned ! usize (Is usize) (uint-makes 𝓤 H A W w64) (length ys) _ (refl, gm) $ fjoin ! $
       owned ! T.the-row (Is T.the-row) (LL.makes T.the-type T′.the-plain 𝓤 H A) h _ h-is $ fjoin ! $ nothing ! $ join ! $ frame ! $ done !
 
-  begin-of : (s : Bool) (r : Going) → ent 𝓤 (ensured 𝓤 H A begin.ended (begin.clauses 𝓤 H A at-mem run) tt (begun s) tt r) (fact 𝓤 (r ≡ beginOf h (length ys) (length cs) s (length ks) budget))
+  begin-of : (s : Bool) (r : UnderWay) → ent 𝓤 (ensured 𝓤 H A begin.ended (begin.clauses 𝓤 H A at-mem run) tt (begun s) tt r) (fact 𝓤 (r ≡ beginOf h (length ys) (length cs) s (length ks) budget))
   begin-of s r = exE 𝓤 _ (λ ws. snd∗ 𝓤 (sem 𝓤 H A (lasts begin.ended tt (begun s) ws)) (fact 𝓤 (r ≡ beginOf h (length ys) (length cs) s (length ks) budget)))
 
   -- `next_key`, where n keys are taken
@@ -216,7 +216,7 @@ module _ {M : Type 1} (𝓤 : URA M) (H : Heap 𝓤) (A : Atoms 𝓤) (W : Given
 
   -- where a turn starts: a run under way whose outcome is the whole run's
   record Turn : Type 0 where
-    g : Going
+    g : UnderWay
     zs : List ℕ
     ds : List ℕ
     g-is : Is G.the-row g (machG g ∷ [])
@@ -233,7 +233,7 @@ module _ {M : Type 1} (𝓤 : URA M) (H : Heap 𝓤) (A : Atoms 𝓤) (W : Given
   -- `proceed`, at memory and console lent again for the lifetimes ν and ν′, under the names δ and δ′
   module _ (t : Turn) (n : Next) (n-is : Is N.the-row n (machN n ∷ [])) (ν ν′ : ℕ) (δ δ′ : GName) where
     abbrev Passed : Type 0
-    Passed = Going × (RefT (List ℕ) × (RefT (List ℕ) × (Next × Unit {0})))
+    Passed = UnderWay × (RefT (List ℕ) × (RefT (List ℕ) × (Next × Unit {0})))
 
     abbrev passed : Passed
     passed = (t .g, (xm δ (t .zs), (xc δ′ (t .ds), (n, tt))))
@@ -255,7 +255,7 @@ module _ {M : Type 1} (𝓤 : URA M) (H : Heap 𝓤) (A : Atoms 𝓤) (W : Given
         owned ! G.the-row (Is G.the-row) (LL.makes G.the-type G′.the-plain 𝓤 H A) (t .g) _ (t .g-is) $ fjoin ! $ done !
 
     -- what `proceed` ensures
-    abbrev Said : Going → List ℕ → List ℕ → Type 0
+    abbrev Said : UnderWay → List ℕ → List ℕ → Type 0
     Said r l k = Proceeds (t .g) n (t .zs) (t .ds) r l k
 
   n-is : (n : Next) (v : Val) → Is N.the-row n (v ∷ []) → Is N.the-row n (machN n ∷ [])
@@ -276,7 +276,7 @@ module _ {M : Type 1} (𝓤 : URA M) (H : Heap 𝓤) (A : Atoms 𝓤) (W : Given
   over : (t : Turn) → ltb 0 (t .g .left) ≡ false → RunsAs ks budget h ys cs (t .g .ran) (t .zs) (t .ds)
   over t e = under-last ks budget h ys cs (t .under) (nltb→le 0 (t .g .left) (is-false e))
 
-  abbrev next : (t : Turn) (n : Next) (r : Going) (zs ds : List ℕ) → Is G.the-row r (machG r ∷ []) → length zs ≡ length (t .zs) → length ds ≡ length (t .ds)
+  abbrev next : (t : Turn) (n : Next) (r : UnderWay) (zs ds : List ℕ) → Is G.the-row r (machG r ∷ []) → length zs ≡ length (t .zs) → length ds ≡ length (t .ds)
       → n ≡ nextOf ks (t .g .taken) → Proceeds (t .g) n (t .zs) (t .ds) r zs ds → Turn
   next t n r zs ds is lm lc q p = record { g = r; zs = zs; ds = ds; g-is = is; lz = lm ∙ t .lz; ld = lc ∙ t .ld; under = under-next ks budget h ys cs (t .under) q p }
 
@@ -343,7 +343,7 @@ module _ {M : Type 1} (𝓤 : URA M) (H : Heap 𝓤) (A : Atoms 𝓤) (W : Given
         use2 W (raw (Proceed 𝓤 H A at-mem run .pre (to-proceed t n (n-is n v n-was) ν ν′ δ δ′))) (asked-proceed t n (n-is n v n-was) ν ν′ δ δ′ (ready t n e is-next (gk .0))) $
         -- [the call's; what the console's lender keeps; what memory's keeps; the keys' token; keys; _16; …]
         calls-at-last ! (fmOf 𝓤 H (W .laws) 𝓣) (Proceed 𝓤 H A at-mem run) known-proceed (to-proceed t n (n-is n v n-was) ν ν′ δ δ′) (and-then ! (load ! (from ! (stop !)) (look ! 23 refl)) (and-then ! (load ! (from ! (stop !)) (look ! 9 refl)) (and-then ! (load ! (from ! (stop !)) (look ! 5 refl)) (and-then ! (load ! (from ! (stop !)) (look ! 21 refl)) (no-more !))))) (λ w.
-        use1 W (later (some (λ (r : Going). (Tokens t n (n-is n v n-was) ν ν′ δ δ′ ⊛ ‵ (G.the-row .own r (w ∷ []))) ⊛ raw (ensured 𝓤 H A proceed.ended (proceed.clauses 𝓤 H A at-mem run) (ν ∷ [], (ν′ ∷ [], tt)) (passed t n (n-is n v n-was) ν ν′ δ δ′) tt r)))) (id⊢ 𝓤 _) $ await ! tt $ pick ! (λ r.
+        use1 W (later (some (λ (r : UnderWay). (Tokens t n (n-is n v n-was) ν ν′ δ δ′ ⊛ ‵ (G.the-row .own r (w ∷ []))) ⊛ raw (ensured 𝓤 H A proceed.ended (proceed.clauses 𝓤 H A at-mem run) (ν ∷ [], (ν′ ∷ [], tt)) (passed t n (n-is n v n-was) ν ν′ δ δ′) tt r)))) (id⊢ 𝓤 _) $ await ! tt $ pick ! (λ r.
         split ! $ move ! (1 ∷ []) $ use1 W (some (λ (ls : Unit {0} × (List ℕ × (List ℕ × (Unit {0} × Unit {0})))). ‵ (lasts proceed.ended (ν ∷ [], (ν′ ∷ [], tt)) (passed t n (n-is n v n-was) ν ν′ δ δ′) ls) ⊛ raw (fact 𝓤 (Said t n (n-is n v n-was) ν ν′ δ δ′ r (ls .1 .0) (ls .1 .1 .0))))) (id⊢ 𝓤 _) $ pick ! (λ ls.
         split ! $ move ! (1 ∷ []) $ heard ! (Said t n (n-is n v n-was) ν ν′ δ δ′ r (ls .1 .0) (ls .1 .1 .0)) (λ said.
         fsplit ! $ drop ! $ fsplit ! $ fsplit ! $ move ! (1 ∷ []) $ feqL ! (λ lm. move ! (1 ∷ []) $ fsplit ! $ fsplit ! $ move ! (1 ∷ []) $ feqL ! (λ lc.
@@ -385,7 +385,7 @@ module _ {M : Type 1} (𝓤 : URA M) (H : Heap 𝓤) (A : Atoms 𝓤) (W : Given
       assigns ! (of-opd ! (load ! (from ! (fld ! refl (stop !))) (look-in ! 30 (sub ! 1 refl (whole !))))) (from ! (stop !)) (init ! 16 refl (tt, record { fits = gk .0 })) $
       use0 W (raw (Begin 𝓤 H A at-mem run .pre (to-begin s))) (asked-begin s (gm .0) (gc .0) (gk .0)) $
       calls-at ! (fmOf 𝓤 H (W .laws) 𝓣) (Begin 𝓤 H A at-mem run) known-begin (to-begin s) (and-then ! (load ! (from ! (stop !)) (look ! 37 refl)) (and-then ! (load ! (from ! (stop !)) (look ! 21 refl)) (and-then ! (load ! (from ! (stop !)) (look ! 19 refl)) (and-then ! (load ! (from ! (stop !)) (look ! 27 refl)) (and-then ! (load ! (from ! (stop !)) (look ! 17 refl)) (and-then ! (load ! (from ! (stop !)) (look ! 29 refl)) (no-more !))))))) (λ u.
-      use1 W (later (some (λ (g₀ : Going). (‵ ftrue ⊛ ‵ (G.the-row .own g₀ (u ∷ []))) ⊛ raw (ensured 𝓤 H A begin.ended (begin.clauses 𝓤 H A at-mem run) tt (begun s) tt g₀)))) (id⊢ 𝓤 _) $ await ! tt $ pick ! (λ g₀.
+      use1 W (later (some (λ (g₀ : UnderWay). (‵ ftrue ⊛ ‵ (G.the-row .own g₀ (u ∷ []))) ⊛ raw (ensured 𝓤 H A begin.ended (begin.clauses 𝓤 H A at-mem run) tt (begun s) tt g₀)))) (id⊢ 𝓤 _) $ await ! tt $ pick ! (λ g₀.
       split ! $ move ! (1 ∷ []) $ use1 W (raw (fact 𝓤 (g₀ ≡ beginOf h (length ys) (length cs) s (length ks) budget))) (begin-of s g₀) $ heard ! (g₀ ≡ beginOf h (length ys) (length cs) s (length ks) budget) (λ began. split ! $ drop ! $
       peeks ! G.the-row (Is G.the-row) (shows 𝓤 H A G.the-row) g₀ (u ∷ []) (λ g-was.
       land ! (from ! (stop !)) (init ! 25 refl (LL.lawful G.the-type G′.the-laws 𝓤 H A W .typed g₀ _ g-was .0)) $ rewrite ! 25 (λ (w : Val). ‵ (fat fullShare G′.mir l₇ 0 w)) (ap only (LL.tells G.the-type G′.the-laws g₀ _ g-was)) refl $ drop ! $

@@ -45,15 +45,15 @@ use denote.Exit.{yes}
 use Rattle.rules.specs.declared.Key.{Key}
 use Rattle.rules.specs.declared.Machine.{Machine}
 use Rattle.rules.specs.Run.{runNumber}
-use Rattle.runs.specs.declared.Ran.{Ran}
+use Rattle.runs.specs.declared.RunResult.{RunResult}
 use Rattle.v9.specs.declared.Numbered.{Numbered}
 use Rattle.v9.specs.Contract.{RunsAs, StepsAs}
 use Rattle.v9.proofs.UnderWay.{steps-once}
 use Rattle.rules.proofs.Key as K
 use Rattle.rules.proofs.Machine as T
 use Rattle.rules.proofs.Machine.Laws as T′
-use Rattle.runs.proofs.Ran as R
-use Rattle.runs.proofs.Ran.Laws as R′
+use Rattle.runs.proofs.RunResult as R
+use Rattle.runs.proofs.RunResult.Laws as R′
 use Rattle.v9.proofs.Numbered as S
 use Rattle.v9.proofs.Numbered.Laws as S′
 use Rattle.v9.proofs.run as callee
@@ -75,7 +75,7 @@ stayed = (stay-ref (0 ∷ []) tt (plain (λ _. T.the-row)), (gave-slice (1 ∷ [
 abbrev mach : Machine → Val
 mach h = LL.tuple-val T.the-type T′.the-laws (T.the-type .to h)
 
-abbrev machR : Ran → Val
+abbrev machR : RunResult → Val
 machR r = LL.tuple-val R.the-type R′.the-laws (R.the-type .to r)
 
 -- the contracts that the proof cites
@@ -131,20 +131,20 @@ module _ {M : Type 1} (𝓤 : URA M) (H : Heap 𝓤) (A : Atoms 𝓤) (W : Given
   asked = qed W (Tokens ∷ ‵ Owned ∷ []) ∵ join ! $ frame ! $ done !
 
   -- what `run` ensures
-  abbrev Said : Ran → List ℕ → List ℕ → Type 0
+  abbrev Said : RunResult → List ℕ → List ℕ → Type 0
   Said r zm zc = RunsAs ks 1 h (xm .now) (xc .now) r zm zc
 
   -- `number_of`
-  abbrev to-number : Ran → Number 𝓤 H A at-mem run .Ghost
+  abbrev to-number : RunResult → Number 𝓤 H A at-mem run .Ghost
   to-number r = ((tt, tt, tt, (r, tt), (machR r ∷ [], tt)), tt)
 
-  asked-number : (r : Ran) → Is R.the-row r (machR r ∷ []) → ent 𝓤 (emp 𝓤) (Number 𝓤 H A at-mem run .pre (to-number r))
+  asked-number : (r : RunResult) → Is R.the-row r (machR r ∷ []) → ent 𝓤 (emp 𝓤) (Number 𝓤 H A at-mem run .pre (to-number r))
   asked-number r is = qed W [] ∵ nothing ! $ owned ! R.the-row (Is R.the-row) (LL.makes R.the-type R′.the-plain 𝓤 H A) r _ is $ fjoin ! $ nothing ! $ join ! $ frame ! $ done !
 
-  abbrev Told : Ran → Numbered → Type 0
+  abbrev Told : RunResult → Numbered → Type 0
   Told r s = (s .machine ≡ r .machine) × (s .number ≡ runNumber (r .answer))
 
-  number-of : (r : Ran) (s : Numbered) → ent 𝓤 (ensured 𝓤 H A number.ended (number.clauses 𝓤 H A at-mem run) tt (r, tt) tt s) (fact 𝓤 (Told r s))
+  number-of : (r : RunResult) (s : Numbered) → ent 𝓤 (ensured 𝓤 H A number.ended (number.clauses 𝓤 H A at-mem run) tt (r, tt) tt s) (fact 𝓤 (Told r s))
   number-of r s = exE 𝓤 _ (λ ws. snd∗ 𝓤 (sem 𝓤 H A (lasts number.ended tt (r, tt) ws)) (fact 𝓤 (Told r s)))
 
   exits : (s : Numbered) (zm zc : List ℕ) → StepsAs ks h (xm .now) (xc .now) (s .number) (s .machine) zm zc → length zm ≡ length (xm .now) → length zc ≡ length (xc .now) → s .number < 2 ^ 32
@@ -184,7 +184,7 @@ module _ {M : Type 1} (𝓤 : URA M) (H : Heap 𝓤) (A : Atoms 𝓤) (W : Given
         use2 W (raw (Run 𝓤 H A at-mem run .pre to-run)) asked $
         -- [the call's; the keys; true; the record's cell; what it owns; the open borrow; obs; auth; _11; …; .. ; _0; …]
         calls-at ! fm (Run 𝓤 H A at-mem run) known to-run (and-then ! (load ! (from ! (stop !)) (look ! 16 refl)) (and-then ! (load ! (from ! (stop !)) (look ! 12 refl)) (and-then ! (load ! (from ! (stop !)) (look ! 8 refl)) (and-then ! (load ! (from ! (stop !)) (look ! 22 refl)) (and-then ! (lit ! tt) (no-more !)))))) (λ w.
-        use1 W (later (some (λ (r : Ran). (Tokens ⊛ ‵ (R.the-row .own r (w ∷ []))) ⊛ raw (ensured 𝓤 H A callee.ended (callee.clauses 𝓤 H A at-mem run) (κm, (κc, (κk, tt))) passed tt r)))) (id⊢ 𝓤 _) $ await ! tt $ pick ! (λ r.
+        use1 W (later (some (λ (r : RunResult). (Tokens ⊛ ‵ (R.the-row .own r (w ∷ []))) ⊛ raw (ensured 𝓤 H A callee.ended (callee.clauses 𝓤 H A at-mem run) (κm, (κc, (κk, tt))) passed tt r)))) (id⊢ 𝓤 _) $ await ! tt $ pick ! (λ r.
         split ! $ move ! (1 ∷ []) $ use1 W (some (λ (zs : Unit {0} × (List ℕ × (List ℕ × (Unit {0} × (Unit {0} × Unit {0}))))). ‵ (lasts callee.ended (κm, (κc, (κk, tt))) passed zs) ⊛ raw (fact 𝓤 (Said r (zs .1 .0) (zs .1 .1 .0))))) (id⊢ 𝓤 _) $ pick ! (λ zs.
         split ! $ move ! (1 ∷ []) $ heard ! (Said r (zs .1 .0) (zs .1 .1 .0)) (λ e.
         fsplit ! $ drop ! $ fsplit ! $ fsplit ! $ move ! (1 ∷ []) $ feqL ! (λ lm. move ! (1 ∷ []) $ fsplit ! $ fsplit ! $ move ! (1 ∷ []) $ feqL ! (λ lc.

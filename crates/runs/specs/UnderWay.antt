@@ -6,6 +6,7 @@ use mathlib.Core.List.{List}
 use lib.ListN.{length}
 use Rattle.paging.specs.declared.Entry.{Entry}
 use Rattle.paging.specs.Buffer.{bufferOk}
+use Rattle.mmu.specs.Translates.{Kept}
 use Rattle.walk.specs.Directory.{Directory}
 use Rattle.rules.specs.declared.Key.{Key}
 use Rattle.rules.specs.declared.Machine.{Machine}
@@ -16,22 +17,23 @@ use Rattle.rules.specs.Step.{State}
 use Rattle.rules.specs.Run.{allowance}
 use Rattle.refusals.specs.View.{entriesOf, viewOf}
 use Rattle.refusals.specs.Refusal.{refusalOf}
-use Rattle.runs.specs.declared.Going.{Going}
-use Rattle.runs.specs.Advance.{leftOf, endOf}
+use Rattle.runs.specs.declared.UnderWay.{UnderWay}
+use Rattle.runs.specs.Advance.{leftOf}
+use Rattle.outcome.specs.Contract.{endOf}
 
 -- how a run begins: refused, with no step left, or accepted
-unfoldable pub beginOf : Machine → (size room : ℕ) (rising : Bool) (keys budget : ℕ) → Going
+unfoldable pub beginOf : Machine → (size consoleSize : ℕ) (rising : Bool) (keys budget : ℕ) → UnderWay
 unfolding leftOf
-beginOf m size room rising keys budget =
-    let a = refusalOf m size room rising keys budget in
+beginOf m size consoleSize rising keys budget =
+    let a = refusalOf m size consoleSize rising keys budget in
     record { taken = m .cpu .clock .taken; left = leftOf (m .cpu .stop) (allowance a budget); ran = record { machine = m; answer = a; steps = 0 } }
 
 -- where a run under way ends, from memory and console as they are
-abbrev pub outcome : List Key → Going → List ℕ → List ℕ → State (List Entry)
+abbrev pub outcome : List Key → UnderWay → List ℕ → List ℕ → State Kept
 outcome ks g mem con = endOf ks (g .left) (viewOf (g .ran .machine) mem con)
 
 -- a run that goes on, in memory of `size` bytes
-pub record Able (g : Going) (size : ℕ) : Type 0 where
+pub record Able (g : UnderWay) (size : ℕ) : Type 0 where
   pub directory : Directory size (g .ran .machine .cpu .space .pdir)
   pub entries : bufferOk size (entriesOf (g .ran .machine)) ≡ true
   pub running : g .ran .machine .cpu .stop ≡ Running
@@ -41,7 +43,7 @@ pub record Able (g : Going) (size : ℕ) : Type 0 where
   pub steps : g .ran .steps ≤ g .ran .machine .cpu .regs .count
 
 -- the run g went on to r, with the next key k: at least one step was made, and the outcome is kept
-pub record Proceeds (g : Going) (k : Next) (mem con : List ℕ) (r : Going) (mem′ con′ : List ℕ) : Type 0 where
+pub record Proceeds (g : UnderWay) (k : Next) (mem con : List ℕ) (r : UnderWay) (mem′ con′ : List ℕ) : Type 0 where
   pub able : 0 < r .left → Able r (length mem′)
   pub less : r .left < g .left
   pub answer : r .ran .answer ≡ g .ran .answer

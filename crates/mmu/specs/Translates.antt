@@ -11,26 +11,37 @@ use Rattle.paging.specs.declared.Access.{Access}
 use Rattle.paging.specs.declared.Entry.{Entry}
 use Rattle.paging.specs.declared.Space.{Space}
 use Rattle.paging.specs.declared.Answer.{Answer}
-use Rattle.paging.specs.Translate.{Request, Outcome, pagedBy, buffered}
-use Rattle.buffer.specs.Held.{held, Buffer}
+use Rattle.paging.specs.Translate.{Request, Outcome, pagedBy, buffered, Translator}
+use Rattle.buffer.specs.Held.{entriesIn, Buffer}
 use Rattle.mmu.specs.Good.{Good}
 
 -- an access
 abbrev pub request : Access → Size → ℕ → Bool → Request
 request k s a u = record { kind = k; size = bytes s; addr = a; user = u }
 
--- an answer with memory and the entries held
-pub record State (A : Type 0) : Type 0 where
+-- what the translator of the code holds, the translator itself, and what the lent array holds: the contracts from here up name these alone, so that what is
+-- held can grow in one place
+abbrev pub Kept : Type 0
+Kept = List Entry
+
+abbrev pub translator : Translator Kept
+translator = buffered
+
+abbrev pub keptIn : List ℕ → Kept
+keptIn l = entriesIn l
+
+-- an answer with memory and what is held
+pub record Result (A : Type 0) : Type 0 where
   pub answer : A
   pub mem : List ℕ
-  pub buffer : List Entry
+  pub buffer : Kept
 
-abbrev pub state : {A : Type 0} → A → List ℕ → List Entry → State A
-state a m es = record { answer = a; mem = m; buffer = es }
+abbrev pub result : {A : Type 0} → A → List ℕ → Kept → Result A
+result a m es = record { answer = a; mem = m; buffer = es }
 
 -- an outcome without its events
-abbrev pub seen : {A : Type 0} → Outcome (List Entry) A → State A
-seen o = state (o .answer) (o .mem) (o .buffer)
+abbrev pub seen : {A : Type 0} → Outcome Kept A → Result A
+seen o = result (o .answer) (o .mem) (o .buffer)
 
 -- an address space, of its parts
 abbrev pub spaceOf : Bool → ℕ → Space
@@ -38,10 +49,10 @@ spaceOf paging pdir = record { pdir = pdir; paging = paging }
 
 -- an access is translated as the rules say: from memory m and the lent buffer l to the answer a, memory m′ and buffer l′
 pub record Translates (s : Space) (q : Request) (m l : List ℕ) (a : Answer) (m′ l′ : List ℕ) : Type 0 where
-  pub same : state a m′ (held l′) ≡ seen (buffered .translate s q m (held l))
+  pub same : result a m′ (keptIn l′) ≡ seen (translator .translate s q m (keptIn l))
   pub good : Good (length m′) (s .pdir) l′
 
 -- an access that no entry serves is translated as the rules say: by a walk
 pub record Refills (pdir : ℕ) (q : Request) (m l : List ℕ) (a : Answer) (m′ l′ : List ℕ) : Type 0 where
-  pub same : state a m′ (held l′) ≡ seen (pagedBy none pdir q m (held l))
+  pub same : result a m′ (entriesIn l′) ≡ seen (pagedBy none pdir q m (entriesIn l))
   pub buffer : Buffer l′
