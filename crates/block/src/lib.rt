@@ -6,10 +6,10 @@ ghost use lib.ListN.{length};
 ghost use Rattle.decode.specs.declared.BlockOp.the-variants.{Mcpy, Mcmp, Mchr, Mset};
 ghost use Rattle.mmu.specs.Good.{Good};
 ghost use Rattle.rules.specs.Block.{blockEnd, again as againOf, nextA, nextB, compared as comparedOf, searched as searchedOf, byteTree, blockTree};
-ghost use Rattle.outcome.specs.Contract.{Executes};
+ghost use Rattle.contracts.specs.Contract.{Executes};
+use contracts::Done;
 use decode::BlockOp;
 use memory::Size;
-use outcome::Done;
 use paging::Access;
 use paging::Answer;
 use paging::Space;
@@ -35,7 +35,7 @@ fn again(r: Regs) -> Regs
 {
     let a = word::sum(r.a, 1);
     let c = word::difference(r.c, 1);
-    outcome::regs(r, a, r.b, c, r.sp, word::difference(r.pc, 4))
+    contracts::regs(r, a, r.b, c, r.sp, word::difference(r.pc, 4))
 }
 
 // The same, with b one more too.
@@ -54,14 +54,14 @@ fn compared(r: Regs, x: u32, y: u32) -> Regs
         return again_both(r);
     }
     let a = word::difference(x, y);
-    outcome::regs(r, a, word::sum(r.b, r.c), 0, r.sp, r.pc)
+    contracts::regs(r, a, word::sum(r.b, r.c), 0, r.sp, r.pc)
 }
 
 fn searched(r: Regs, x: u32) -> Regs
     ensures { λ n. ⌜ n ≡ searchedOf x r ⌝ }
 {
     if x == r.b % 256 {
-        return outcome::regs(r, r.a, r.b, 0, r.sp, r.pc);
+        return contracts::regs(r, r.a, r.b, 0, r.sp, r.pc);
     }
     again(r)
 }
@@ -79,15 +79,15 @@ fn copy_byte(
 {
     let p = mmu::translate(mem, tlb, hint, space, r.b, Size::Byte, Access::Read, user);
     let Answer::At(from) = p else {
-        return outcome::refused(r, p);
+        return contracts::refused(r, p);
     };
     let x = memory::load1(mem, from) as u32;
     let q = mmu::translate(mem, tlb, hint, space, r.a, Size::Byte, Access::Write, user);
     let Answer::At(to) = q else {
-        return outcome::refused(r, q);
+        return contracts::refused(r, q);
     };
     memory::store(mem, to, Size::Byte, x);
-    outcome::fine(again_both(r))
+    contracts::fine(again_both(r))
 }
 
 fn compare_byte(
@@ -103,15 +103,15 @@ fn compare_byte(
 {
     let p = mmu::translate(mem, tlb, hint, space, r.b, Size::Byte, Access::Read, user);
     let Answer::At(first) = p else {
-        return outcome::refused(r, p);
+        return contracts::refused(r, p);
     };
     let x = memory::load1(mem, first) as u32;
     let q = mmu::translate(mem, tlb, hint, space, r.a, Size::Byte, Access::Read, user);
     let Answer::At(second) = q else {
-        return outcome::refused(r, q);
+        return contracts::refused(r, q);
     };
     let y = memory::load1(mem, second) as u32;
-    outcome::fine(compared(r, x, y))
+    contracts::fine(compared(r, x, y))
 }
 
 fn search_byte(
@@ -127,10 +127,10 @@ fn search_byte(
 {
     let p = mmu::translate(mem, tlb, hint, space, r.a, Size::Byte, Access::Read, user);
     let Answer::At(at) = p else {
-        return outcome::refused(r, p);
+        return contracts::refused(r, p);
     };
     let x = memory::load1(mem, at) as u32;
-    outcome::fine(searched(r, x))
+    contracts::fine(searched(r, x))
 }
 
 fn set_byte(
@@ -146,10 +146,10 @@ fn set_byte(
 {
     let p = mmu::translate(mem, tlb, hint, space, r.a, Size::Byte, Access::Write, user);
     let Answer::At(at) = p else {
-        return outcome::refused(r, p);
+        return contracts::refused(r, p);
     };
     memory::store(mem, at, Size::Byte, r.b % 256);
-    outcome::fine(again(r))
+    contracts::fine(again(r))
 }
 
 // One step of a block instruction; pc has moved on.
@@ -166,7 +166,7 @@ pub fn block(
     ensures { λ d. ⌜ Executes (blockTree op r) space user [] (now (mem .entry)) (now (tlb .entry)) d (now (mem .exit)) (now (tlb .exit)) ⌝ }
 {
     if r.c == 0 {
-        return outcome::fine(finish(r, op));
+        return contracts::fine(finish(r, op));
     }
     match op {
         BlockOp::Mcpy => copy_byte(r, user, space, mem, tlb, hint),

@@ -1,11 +1,11 @@
 // reference/FORMAT.md, "A case of runs": the record and the keys that a case gives.
 ghost use Prim.Native.Nat.{_≤_};
-use format::given::NUMBERS;
-use format::given::SLOTS;
-use format::given::least;
-use format::given::long;
-use format::given::place;
-use format::given::word;
+use case_format::given::NUMBERS;
+use case_format::given::SLOTS;
+use case_format::given::least;
+use case_format::given::long;
+use case_format::given::place;
+use case_format::given::word;
 use paging::Entry;
 use rules::Key;
 use rules::Machine;
@@ -71,7 +71,7 @@ fn key_at(keys: &[u8], at: usize) -> Key
 {
     Key {
         step: long(keys, at),
-        byte: format::digest::byte(keys, at + 8),
+        byte: case_format::digest::byte(keys, at + 8),
     }
 }
 

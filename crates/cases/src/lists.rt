@@ -3,13 +3,13 @@ ghost use Prim.Native.Nat.{_<_};
 use crate::given::machine_of;
 use crate::made::make;
 use crate::printed::show_line;
-use format::given::SLOTS;
-use format::given::chunks;
-use format::given::copy;
-use format::given::fill;
-use format::given::long;
-use format::given::place;
-use format::given::word;
+use case_format::given::SLOTS;
+use case_format::given::chunks;
+use case_format::given::copy;
+use case_format::given::fill;
+use case_format::given::long;
+use case_format::given::place;
+use case_format::given::word;
 use rules::Machine;
 
 // A run and its line.

@@ -1,8 +1,8 @@
 // reference/FORMAT.md, "A case of loading": a file, and the line that comes of it.
 use crate::printed::show_line;
-use format::given::fill;
-use format::given::place;
-use format::given::word;
+use case_format::given::fill;
+use case_format::given::place;
+use case_format::given::word;
 
 fn load_shown(file: &[u8], value: u32, no: u64, mem: &mut [u8]) {
     fill(mem, (value % 256) as u8);

@@ -1,10 +1,10 @@
 // reference/FORMAT.md, "Expected output": the line of a run or a load.
-use format::digest::digest;
-use format::given::NUMBERS;
-use format::given::least;
-use format::printed::end;
-use format::printed::number;
-use format::printed::numbers;
+use case_format::digest::digest;
+use case_format::given::NUMBERS;
+use case_format::given::least;
+use case_format::printed::end;
+use case_format::printed::number;
+use case_format::printed::numbers;
 use paging::Entry;
 use rules::Machine;
 

@@ -25,12 +25,12 @@ use Rattle.rules.specs.Tree.{Grant, done, requested}
 use Rattle.rules.specs.Outcome.{trap, plain}
 use Rattle.rules.specs.Arithmetic.{aluOf, divides, aluTree}
 use Rattle.rules.specs.Execute.{executeTree, moved, fetched, instructionTree}
-use Rattle.arithmetic.specs.declared.Computed.the-variants.{Value, ZeroDivisor}
-use Rattle.arithmetic.specs.Computed.{computed}
-use Rattle.outcome.specs.declared.Done.{Done}
-use Rattle.outcome.specs.declared.End.the-variants.{Unfetched}
-use Rattle.outcome.specs.Contract.{bad, faultOf, Executes}
-use Rattle.outcome.proofs.Laws.{executes-fine, executes-trap, executes-unfetched, executes-not, executes-got, fault-told}
+use Rattle.operations.specs.declared.Computed.the-variants.{Value, ZeroDivisor}
+use Rattle.operations.specs.Computed.{computed}
+use Rattle.contracts.specs.declared.Done.{Done}
+use Rattle.contracts.specs.declared.End.the-variants.{Unfetched}
+use Rattle.contracts.specs.Contract.{bad, faultOf, Executes}
+use Rattle.contracts.proofs.Laws.{executes-fine, executes-trap, executes-unfetched, executes-not, executes-got, fault-told}
 use Rattle.execute.specs.Computed.{doneBy, aluDone}
 
 -- ---- arithmetic

@@ -4,12 +4,12 @@ use Rattle.decode.specs.declared.AluOp.{AluOp}
 use Rattle.paging.specs.TrapCode.{FARITH}
 use Rattle.rules.specs.declared.Regs.{Regs}
 use Rattle.rules.specs.Record.{withA}
-use Rattle.arithmetic.specs.declared.Computed.{Computed}
-use Rattle.arithmetic.specs.declared.Computed.the-variants.{Value, ZeroDivisor}
-use Rattle.arithmetic.specs.Computed.{computed}
-use Rattle.outcome.specs.declared.Done.{Done}
-use Rattle.outcome.specs.declared.End.the-variants.{Trap}
-use Rattle.outcome.specs.Contract.{ok, bad}
+use Rattle.operations.specs.declared.Computed.{Computed}
+use Rattle.operations.specs.declared.Computed.the-variants.{Value, ZeroDivisor}
+use Rattle.operations.specs.Computed.{computed}
+use Rattle.contracts.specs.declared.Done.{Done}
+use Rattle.contracts.specs.declared.End.the-variants.{Trap}
+use Rattle.contracts.specs.Contract.{ok, bad}
 
 -- the value goes to a; "Zero divisor: FARITH"
 abbrev pub doneBy : Regs → Computed → Done

@@ -8,16 +8,16 @@ ghost use Rattle.mmu.specs.Good.{Good};
 ghost use Rattle.rules.specs.Record.{withCount};
 ghost use Rattle.rules.specs.Arithmetic.{aluFrom};
 ghost use Rattle.rules.specs.Execute.{executeTree, instructionTree};
-ghost use Rattle.outcome.specs.Contract.{Executes};
+ghost use Rattle.contracts.specs.Contract.{Executes};
 ghost use Rattle.execute.specs.Computed.{aluDone};
-use arithmetic::Computed;
+use contracts::Done;
+use contracts::End;
 use decode::AluOp;
 use decode::Instr;
 use decode::Operand;
 use decode::Reg;
 use memory::Size;
-use outcome::Done;
-use outcome::End;
+use operations::Computed;
 use paging::Access;
 use paging::Answer;
 use paging::Space;
@@ -29,10 +29,10 @@ use rules::Regs;
 fn compute(r: Regs, op: AluOp, y: u32) -> Done
     ensures { λ d. ⌜ d ≡ aluDone op y r ⌝ }
 {
-    let Computed::Value(v) = arithmetic::compute(op, r.a, y) else {
-        return outcome::ended(r, End::Trap(paging::FARITH));
+    let Computed::Value(v) = operations::compute(op, r.a, y) else {
+        return contracts::ended(r, End::Trap(paging::FARITH));
     };
-    outcome::fine(registers::put(r, Reg::A, v))
+    contracts::fine(operations::put(r, Reg::A, v))
 }
 
 // Arithmetic on a and the word at sp + imm.
@@ -52,7 +52,7 @@ fn compute_stack(
     let va = word::sum(r.sp, imm);
     let p = mmu::translate(mem, tlb, hint, space, va, Size::Word, Access::Read, user);
     let Answer::At(q) = p else {
-        return outcome::refused(r, p);
+        return contracts::refused(r, p);
     };
     let v = memory::load4(mem, q);
     compute(r, op, v)
@@ -74,10 +74,10 @@ fn execute(
     ensures { λ d. ⌜ Executes (executeTree i r) space user [] (now (mem .entry)) (now (tlb .entry)) d (now (mem .exit)) (now (tlb .exit)) ⌝ }
 {
     match i {
-        Instr::Illegal => outcome::ended(r, End::Trap(paging::FINST)),
-        Instr::Nop => outcome::fine(r),
-        Instr::Trap => outcome::ended(r, End::Trap(paging::FSYS)),
-        Instr::Cyc => outcome::fine(registers::put(r, Reg::A, (r.count % 0x1_0000_0000) as u32)),
+        Instr::Illegal => contracts::ended(r, End::Trap(paging::FINST)),
+        Instr::Nop => contracts::fine(r),
+        Instr::Trap => contracts::ended(r, End::Trap(paging::FSYS)),
+        Instr::Cyc => contracts::fine(operations::put(r, Reg::A, (r.count % 0x1_0000_0000) as u32)),
         Instr::Jsra => transfer::push(
             r,
             r.pc,
@@ -88,56 +88,56 @@ fn execute(
             tlb,
             hint,
         ),
-        Instr::Lba => outcome::fine(registers::put(r, Reg::B, r.a)),
-        Instr::Lca => outcome::fine(registers::put(r, Reg::C, r.a)),
-        Instr::Ent(n) => outcome::fine(registers::adjust(r, n)),
+        Instr::Lba => contracts::fine(operations::put(r, Reg::B, r.a)),
+        Instr::Lca => contracts::fine(operations::put(r, Reg::C, r.a)),
+        Instr::Ent(n) => contracts::fine(operations::adjust(r, n)),
         Instr::Lev(n) => transfer::leave(r, n, user, space, mem, tlb, hint),
-        Instr::Jmp(n) => outcome::fine(registers::jump(r, registers::target(r, n))),
-        Instr::Jmpi(n) => outcome::fine(registers::jump(
+        Instr::Jmp(n) => contracts::fine(operations::jump(r, operations::target(r, n))),
+        Instr::Jmpi(n) => contracts::fine(operations::jump(
             r,
-            word::sum(registers::target(r, n), r.a / 4),
+            word::sum(operations::target(r, n), r.a / 4),
         )),
         Instr::Jsr(n) => transfer::push(
             r,
             r.pc,
-            registers::target(r, n) / 4 * 4,
+            operations::target(r, n) / 4 * 4,
             user,
             space,
             mem,
             tlb,
             hint,
         ),
-        Instr::Lea(n) => outcome::fine(registers::put(r, Reg::A, word::sum(r.sp, n))),
-        Instr::Leag(n) => outcome::fine(registers::put(r, Reg::A, word::sum(r.pc, n))),
+        Instr::Lea(n) => contracts::fine(operations::put(r, Reg::A, word::sum(r.sp, n))),
+        Instr::Leag(n) => contracts::fine(operations::put(r, Reg::A, word::sum(r.pc, n))),
         Instr::Block(op) => block::block(r, op, user, space, mem, tlb, hint),
         Instr::Load(d, b, f, n) => transfer::load(r, d, b, f, n, user, space, mem, tlb, hint),
         Instr::Store(b, s, n) => transfer::store(r, b, s, n, user, space, mem, tlb, hint),
-        Instr::LoadImm(d, n) => outcome::fine(registers::put(r, d, n)),
-        Instr::LoadHigh(d, n) => outcome::fine(registers::put(
+        Instr::LoadImm(d, n) => contracts::fine(operations::put(r, d, n)),
+        Instr::LoadHigh(d, n) => contracts::fine(operations::put(
             r,
             d,
-            registers::high(registers::reg(r, d), n),
+            operations::high(operations::reg(r, d), n),
         )),
         Instr::Alu(op, x) => match x {
             Operand::RegB => compute(r, op, r.b),
             Operand::Imm(y) => compute(r, op, y),
             Operand::Stack(n) => compute_stack(r, op, n, user, space, mem, tlb, hint),
         },
-        Instr::Compare(t) => outcome::fine(registers::put(
+        Instr::Compare(t) => contracts::fine(operations::put(
             r,
             Reg::A,
-            arithmetic::flag(arithmetic::holds(t, r.a, r.b)),
+            operations::flag(operations::holds(t, r.a, r.b)),
         )),
-        Instr::Bz(n) => outcome::fine(registers::branch(r, r.a == 0, registers::target(r, n))),
-        Instr::Bnz(n) => outcome::fine(registers::branch(r, r.a != 0, registers::target(r, n))),
-        Instr::Branch(t, n) => outcome::fine(registers::branch(
+        Instr::Bz(n) => contracts::fine(operations::branch(r, r.a == 0, operations::target(r, n))),
+        Instr::Bnz(n) => contracts::fine(operations::branch(r, r.a != 0, operations::target(r, n))),
+        Instr::Branch(t, n) => contracts::fine(operations::branch(
             r,
-            arithmetic::holds(t, r.a, r.b),
-            registers::target(r, n),
+            operations::holds(t, r.a, r.b),
+            operations::target(r, n),
         )),
         Instr::Push(d) => transfer::push(
             r,
-            registers::reg(r, d),
+            operations::reg(r, d),
             r.pc,
             user,
             space,
@@ -147,7 +147,7 @@ fn execute(
         ),
         Instr::Pshi(n) => transfer::push(r, n, r.pc, user, space, mem, tlb, hint),
         Instr::Pop(d) => transfer::pop(r, d, user, space, mem, tlb, hint),
-        Instr::Sys(op) => outcome::ended(r, End::System(op)),
+        Instr::Sys(op) => contracts::ended(r, End::System(op)),
     }
 }
 
@@ -166,10 +166,10 @@ pub fn instruction(
 {
     let p = mmu::translate(mem, tlb, hint, space, r.pc, Size::Word, Access::Fetch, user);
     let Answer::At(q) = p else {
-        return outcome::ended(r, End::Unfetched(outcome::fault_of(p)));
+        return contracts::ended(r, End::Unfetched(contracts::fault_of(p)));
     };
     let i = decode::decode(memory::load4(mem, q));
-    let mut n = outcome::regs(r, r.a, r.b, r.c, r.sp, word::sum(r.pc, 4));
+    let mut n = contracts::regs(r, r.a, r.b, r.c, r.sp, word::sum(r.pc, 4));
     n.count = r.count + 1;
     execute(n, i, user, space, mem, tlb, hint)
 }

@@ -13,9 +13,9 @@ use Rattle.rules.specs.declared.Next.{Next}
 use Rattle.rules.specs.Outcome.{Out}
 use Rattle.rules.specs.Clock.{nextOf}
 use Rattle.rules.specs.Step.{State, settleTree, finished, steppedBy, stepBy, step}
-use Rattle.outcome.specs.declared.Done.{Done}
-use Rattle.outcome.specs.declared.End.the-variants.{Ok}
-use Rattle.outcome.specs.Contract.{outOf, stateOf, Finishes, endOf}
+use Rattle.contracts.specs.declared.Done.{Done}
+use Rattle.contracts.specs.declared.End.the-variants.{Ok}
+use Rattle.contracts.specs.Contract.{outOf, stateOf, Finishes, endOf}
 use Rattle.clock.specs.Quiet.{quietSteps, Quiet, afterQuiet, Room}
 use Rattle.clock.proofs.QuietSteps.{quiet-few, quiet-steps, quiet-room}
 use Rattle.machine.specs.Settled.{settled}

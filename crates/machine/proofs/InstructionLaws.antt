@@ -22,11 +22,11 @@ use Rattle.rules.specs.Outcome.{Out}
 use Rattle.rules.specs.Execute.{instructionTree}
 use Rattle.rules.specs.Clock.{nextOf}
 use Rattle.rules.specs.Step.{State, step}
-use Rattle.outcome.proofs.End.{the-type as End·type}
-use Rattle.outcome.specs.declared.End.{End}
-use Rattle.outcome.specs.declared.End.the-variants.{Ok}
-use Rattle.outcome.specs.declared.Done.{Done}
-use Rattle.outcome.specs.Contract.{ok, bad, outBy, outOf, made, stateOf, Executes, endOf}
+use Rattle.contracts.proofs.End.{the-type as End·type}
+use Rattle.contracts.specs.declared.End.{End}
+use Rattle.contracts.specs.declared.End.the-variants.{Ok}
+use Rattle.contracts.specs.declared.Done.{Done}
+use Rattle.contracts.specs.Contract.{ok, bad, outBy, outOf, made, stateOf, Executes, endOf}
 use Rattle.clock.specs.Quiet.{Quiet, afterQuiet}
 use Rattle.clock.proofs.QuietSteps.{after-none}
 use Rattle.machine.specs.Settled.{settled}

@@ -21,8 +21,8 @@ use Rattle.rules.specs.Trap.{Final, ended}
 use Rattle.rules.specs.Clock.{ticked}
 use Rattle.rules.specs.Step.{State, Stepped, settleTree, dueTree, stepTree, finished, steppedBy, stepBy, step}
 use Rattle.rules.specs.Run.{stepsOf, lastOf}
-use Rattle.outcome.specs.declared.Done.{Done}
-use Rattle.outcome.specs.Contract.{outOf, stateOf, Executes, endOf}
+use Rattle.contracts.specs.declared.Done.{Done}
+use Rattle.contracts.specs.Contract.{outOf, stateOf, Executes, endOf}
 use Rattle.clock.specs.Quiet.{Quiet, afterQuiet}
 use Rattle.clock.proofs.QuietSteps.{quiet-due, quiet-ticked}
 use Rattle.machine.specs.Settled.{settled}

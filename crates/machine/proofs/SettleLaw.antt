@@ -10,9 +10,9 @@ use Rattle.rules.specs.Tree.{Tree, bind, Grant, storeAll, interpret}
 use Rattle.rules.specs.Outcome.{Out, fine, unfetched, trap, refused, system}
 use Rattle.rules.specs.Trap.{Final, nextPc}
 use Rattle.rules.specs.Step.{State, finished, settleTree}
-use Rattle.outcome.specs.declared.Done.{Done}
-use Rattle.outcome.specs.Contract.{outOf, madeBy, made, stateOf, Executes, Finishes}
-use Rattle.outcome.proofs.Trees.{bind-law}
+use Rattle.contracts.specs.declared.Done.{Done}
+use Rattle.contracts.specs.Contract.{outOf, madeBy, made, stateOf, Executes, Finishes}
+use Rattle.contracts.proofs.Trees.{bind-law}
 use Rattle.system.proofs.OlderGrants.{ends, run, fresh-trap, fresh-fault, fresh-system}
 
 -- the step count is the record's, however a step ends

@@ -11,10 +11,10 @@ use Rattle.rules.specs.Record.{withCount, withRegs}
 use Rattle.rules.specs.Tree.{Tree, bind, interpret, storeAll}
 use Rattle.rules.specs.Outcome.{Out, fine}
 use Rattle.rules.specs.Step.{settleTree, finished}
-use Rattle.outcome.specs.declared.End.{End}
-use Rattle.outcome.specs.declared.End.the-variants.{Ok, Unfetched, Trap, Refused, System}
-use Rattle.outcome.specs.declared.Done.{Done}
-use Rattle.outcome.specs.Contract.{outBy, outOf, made}
+use Rattle.contracts.specs.declared.End.{End}
+use Rattle.contracts.specs.declared.End.the-variants.{Ok, Unfetched, Trap, Refused, System}
+use Rattle.contracts.specs.declared.Done.{Done}
+use Rattle.contracts.specs.Contract.{outBy, outOf, made}
 use Rattle.machine.specs.Settled.{settled}
 use Rattle.machine.proofs.SettleLaw.{settle-law}
 

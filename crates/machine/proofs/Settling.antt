@@ -6,10 +6,10 @@ use Rattle.paging.specs.declared.Fault.{Fault}
 use Rattle.rules.specs.declared.Cpu.{Cpu}
 use Rattle.rules.specs.Trap.{nextPc, trapTree, faultTree}
 use Rattle.rules.specs.Step.{settleTree}
-use Rattle.outcome.specs.declared.Done.{Done}
-use Rattle.outcome.specs.declared.End.{End}
-use Rattle.outcome.specs.declared.End.the-variants.{Trap, Refused}
-use Rattle.outcome.specs.Contract.{outBy, outOf, Finishes}
+use Rattle.contracts.specs.declared.Done.{Done}
+use Rattle.contracts.specs.declared.End.{End}
+use Rattle.contracts.specs.declared.End.the-variants.{Trap, Refused}
+use Rattle.contracts.specs.Contract.{outBy, outOf, Finishes}
 use Rattle.system.proofs.Choices.{at-next}
 
 module _ (size consoleSize : ℕ) (c : Cpu) (d : Done) {m con l : List ℕ} {x : Cpu} {m′ con′ l′ : List ℕ} where

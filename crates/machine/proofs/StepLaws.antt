@@ -15,9 +15,9 @@ use Rattle.rules.specs.Execute.{instructionTree}
 use Rattle.rules.specs.Trap.{ended, deliverTree}
 use Rattle.rules.specs.Clock.{dueOf, ticked}
 use Rattle.rules.specs.Step.{awake, settleTree, dueTree, stepTree, spaceAfter, finished, steppedBy, stepBy}
-use Rattle.outcome.specs.declared.Done.{Done}
-use Rattle.outcome.specs.Contract.{outOf, made, stateOf, Finishes}
-use Rattle.outcome.proofs.Steps.{finishes-ended}
+use Rattle.contracts.specs.declared.Done.{Done}
+use Rattle.contracts.specs.Contract.{outOf, made, stateOf, Finishes}
+use Rattle.contracts.proofs.Steps.{finishes-ended}
 use Rattle.clock.specs.declared.Due.{Due}
 use Rattle.clock.specs.declared.Due.the-variants.{Nothing, Code}
 use Rattle.clock.specs.Due.{dueAs}

@@ -11,7 +11,7 @@ use Rattle.rules.specs.declared.Next.{Next}
 use Rattle.rules.specs.declared.Stop.the-variants.{Running}
 use Rattle.rules.specs.Clock.{nextOf}
 use Rattle.rules.specs.Run.{stepsOf, lastOf}
-use Rattle.outcome.specs.Contract.{stateOf, endOf}
+use Rattle.contracts.specs.Contract.{stateOf, endOf}
 use Rattle.machine.specs.declared.Advanced.{Advanced}
 
 -- a run that can go on, with `left` steps left

@@ -17,9 +17,9 @@ use Rattle.rules.specs.Execute.{instructionTree}
 use Rattle.rules.specs.Clock.{nextOf}
 use Rattle.rules.specs.Step.{State}
 use Rattle.rules.specs.Run.{stepsOf, lastOf}
-use Rattle.outcome.specs.declared.Done.{Done}
-use Rattle.outcome.specs.declared.End.the-variants.{Ok}
-use Rattle.outcome.specs.Contract.{ok, outOf, made, stateOf, endOf}
+use Rattle.contracts.specs.declared.Done.{Done}
+use Rattle.contracts.specs.declared.End.the-variants.{Ok}
+use Rattle.contracts.specs.Contract.{ok, outOf, made, stateOf, endOf}
 use Rattle.clock.specs.Quiet.{Quiet, afterQuiet}
 use Rattle.machine.specs.Settled.{settled}
 

@@ -8,7 +8,7 @@ use Rattle.mmu.specs.Good.{Good}
 use Rattle.rules.specs.declared.Cpu.{Cpu}
 use Rattle.rules.specs.declared.Next.{Next}
 use Rattle.rules.specs.Step.{stepBy}
-use Rattle.outcome.specs.Contract.{stateOf}
+use Rattle.contracts.specs.Contract.{stateOf}
 
 -- from the record c, memory m, console con and buffer l, with the next key k: the code answered x, with m′, con′ and l′
 pub record Steps (c : Cpu) (k : Next) (m con l : List ℕ) (x : Cpu) (m′ con′ l′ : List ℕ) : Type 0 where

@@ -6,14 +6,14 @@ ghost use lib.ListN.{length};
 ghost use Rattle.mmu.specs.Good.{Good};
 ghost use Rattle.rules.specs.Record.{withCount, withRegs};
 ghost use Rattle.rules.specs.Step.{awake as awakeOf, settleTree};
-ghost use Rattle.outcome.specs.Contract.{outOf, Finishes};
+ghost use Rattle.contracts.specs.Contract.{outOf, Finishes};
 ghost use Rattle.clock.specs.Due.{KeyFits};
 ghost use Rattle.machine.specs.Instructions.{raiseCount, InstructionsEnd};
 ghost use Rattle.machine.specs.Step.{Steps};
 ghost use Rattle.machine.specs.Advance.{Ready, Advances};
 use clock::Due;
-use outcome::Done;
-use outcome::End;
+use contracts::Done;
+use contracts::End;
 use paging::Space;
 use rules::Cpu;
 use rules::Next;
@@ -46,13 +46,13 @@ fn instructions(
         let d = execute::instruction(r, user, space, mem, tlb, hint);
         let e = d.end;
         let End::Ok = e else {
-            return outcome::ended(r, e);
+            return contracts::ended(r, e);
         };
         let count = r.count + 1;
         r = d.regs;
         r.count = count;
     }
-    outcome::fine(r)
+    contracts::fine(r)
 }
 
 // The record with the registers that an instruction left.

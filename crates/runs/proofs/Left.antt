@@ -15,7 +15,7 @@ use Rattle.rules.specs.Record.{isRunning}
 use Rattle.rules.specs.Step.{State}
 use Rattle.rules.specs.Run.{stepsOf, lastOf}
 use Rattle.runs.specs.Advance.{leftOf}
-use Rattle.outcome.specs.Contract.{endOf}
+use Rattle.contracts.specs.Contract.{endOf}
 
 pub left-taken : (s : Stop) (n : ℕ) → isRunning s ≡ true → n ≡ leftOf s n
 unfolding leftOf

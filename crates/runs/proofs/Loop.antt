@@ -15,7 +15,7 @@ use Rattle.rules.specs.declared.Key.{Key}
 use Rattle.rules.specs.declared.Next.{Next}
 use Rattle.rules.specs.declared.Stop.the-variants.{Running}
 use Rattle.rules.specs.Clock.{nextOf}
-use Rattle.outcome.specs.Contract.{stateOf, endOf}
+use Rattle.contracts.specs.Contract.{stateOf, endOf}
 use Rattle.machine.specs.declared.Advanced.{Advanced}
 use Rattle.machine.specs.Advance.{Ready, Advances}
 use Rattle.runs.specs.Advance.{leftOf, Goes}

@@ -18,7 +18,7 @@ use Rattle.rules.specs.declared.Machine.{Machine}
 use Rattle.rules.specs.declared.RunAnswer.{RunAnswer}
 use Rattle.rules.specs.Clock.{nextOf}
 use Rattle.rules.specs.Run.{allowance}
-use Rattle.outcome.specs.Contract.{stateOf, endOf}
+use Rattle.contracts.specs.Contract.{stateOf, endOf}
 use Rattle.machine.specs.declared.Advanced.{Advanced}
 use Rattle.machine.specs.Advance.{Ready}
 use Rattle.refusals.specs.Refusal.{refusalOf}

@@ -16,7 +16,7 @@ use Rattle.rules.specs.Record.{isRunning}
 use Rattle.rules.specs.Clock.{nextOf}
 use Rattle.rules.specs.Step.{State}
 use Rattle.rules.specs.Run.{stepsOf, lastOf}
-use Rattle.outcome.specs.Contract.{stateOf, endOf}
+use Rattle.contracts.specs.Contract.{stateOf, endOf}
 use Rattle.machine.specs.declared.Advanced.{Advanced}
 
 -- the steps that are left, none once the machine has stopped

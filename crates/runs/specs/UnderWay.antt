@@ -19,7 +19,7 @@ use Rattle.refusals.specs.View.{entriesOf, viewOf}
 use Rattle.refusals.specs.Refusal.{refusalOf}
 use Rattle.runs.specs.declared.UnderWay.{UnderWay}
 use Rattle.runs.specs.Advance.{leftOf}
-use Rattle.outcome.specs.Contract.{endOf}
+use Rattle.contracts.specs.Contract.{endOf}
 
 -- how a run begins: refused, with no step left, or accepted
 unfoldable pub beginOf : Machine → (size consoleSize : ℕ) (rising : Bool) (keys budget : ℕ) → UnderWay

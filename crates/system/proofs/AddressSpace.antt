@@ -18,8 +18,8 @@ use Rattle.rules.specs.Record.{withSpace}
 use Rattle.rules.specs.Trap.{nextPc, faultTree}
 use Rattle.rules.specs.System.{pdirTree, spagTree}
 use Rattle.rules.specs.Step.{spaceAfter}
-use Rattle.outcome.specs.Contract.{Finishes}
-use Rattle.outcome.proofs.Steps.{finishes-space}
+use Rattle.contracts.specs.Contract.{Finishes}
+use Rattle.contracts.proofs.Steps.{finishes-space}
 use Rattle.system.specs.Moved.{movedOn}
 use Rattle.system.proofs.Choices.{finishes-then, finishes-else, at-next}
 

@@ -8,7 +8,7 @@ use Rattle.mmu.specs.Good.{Good}
 use Rattle.rules.specs.declared.Cpu.{Cpu}
 use Rattle.rules.specs.Tree.{Tree}
 use Rattle.rules.specs.Trap.{Final, nextPc}
-use Rattle.outcome.specs.Contract.{Finishes}
+use Rattle.contracts.specs.Contract.{Finishes}
 use Rattle.system.specs.Moved.{movedOn}
 
 -- ---- a test

@@ -16,8 +16,8 @@ use Rattle.rules.specs.Record.{putA, withWritten, withClock, withTimeout}
 use Rattle.rules.specs.Trap.{ended, nextPc, trapTree}
 use Rattle.rules.specs.System.{boutTree, privilegedTree, systemTree}
 use Rattle.rules.specs.Step.{spaceAfter}
-use Rattle.outcome.specs.Contract.{Finishes}
-use Rattle.outcome.proofs.Steps.{finishes-ended, finishes-printed}
+use Rattle.contracts.specs.Contract.{Finishes}
+use Rattle.contracts.proofs.Steps.{finishes-ended, finishes-printed}
 use Rattle.system.specs.Moved.{movedOn}
 use Rattle.system.proofs.Choices.{finishes-then, finishes-else, at-next}
 

@@ -18,8 +18,8 @@ use Rattle.rules.specs.Tree.{ask, access, requested}
 use Rattle.rules.specs.Trap.{none, ended, nextPc, faultTree}
 use Rattle.rules.specs.System.{backTo, returned, orFault, rtiTree}
 use Rattle.rules.specs.Step.{spaceAfter}
-use Rattle.outcome.specs.Contract.{faultOf, Finishes}
-use Rattle.outcome.proofs.Steps.{recordAfter, finishes-ended, finishes-denied, finishes-read}
+use Rattle.contracts.specs.Contract.{faultOf, Finishes}
+use Rattle.contracts.proofs.Steps.{recordAfter, finishes-ended, finishes-denied, finishes-read}
 use Rattle.system.proofs.Choices.{at-next}
 
 -- the record after the frame has left the stack

@@ -5,7 +5,7 @@ ghost use Prim.Native.Nat.{ℕ};
 ghost use lib.ListN.{length};
 ghost use Rattle.mmu.specs.Good.{Good};
 ghost use Rattle.rules.specs.System.{pdirTree};
-ghost use Rattle.outcome.specs.Contract.{Finishes};
+ghost use Rattle.contracts.specs.Contract.{Finishes};
 ghost use Rattle.system.specs.Moved.{movedOn};
 use paging::Fault;
 use rules::Cpu;

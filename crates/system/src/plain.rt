@@ -12,7 +12,7 @@ pub fn cli(c: Cpu) -> Cpu
     ensures { λ x. ⌜ x ≡ putA (flag (c .system .iena)) (withSystem (withIena false (c .system)) c) ⌝ }
 {
     let mut n = c;
-    let a = arithmetic::flag(c.system.iena);
+    let a = operations::flag(c.system.iena);
     n.regs.a = a;
     n.system.iena = false;
     n

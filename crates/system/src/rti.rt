@@ -5,7 +5,7 @@ ghost use Prim.Native.Nat.{ℕ};
 ghost use lib.ListN.{length};
 ghost use Rattle.mmu.specs.Good.{Good};
 ghost use Rattle.rules.specs.System.{returned as returnedOf, rtiTree};
-ghost use Rattle.outcome.specs.Contract.{Finishes};
+ghost use Rattle.contracts.specs.Contract.{Finishes};
 use memory::Size;
 use paging::Access;
 use paging::Answer;
@@ -42,12 +42,12 @@ pub fn rti(c: Cpu, mem: &mut [u8], tlb: &mut [u64], hint: &mut [u8; 256]) -> Cpu
     let second = word::sum(sp, 8);
     let p = mmu::translate(mem, tlb, hint, s, sp, Size::Word, Access::Read, user);
     let Answer::At(x) = p else {
-        return trap::fault(c, outcome::fault_of(p), trap::next_pc(c), mem, tlb, hint);
+        return trap::fault(c, contracts::fault_of(p), trap::next_pc(c), mem, tlb, hint);
     };
     let code = memory::load4(mem, x);
     let q = mmu::translate(mem, tlb, hint, s, second, Size::Word, Access::Read, user);
     let Answer::At(y) = q else {
-        return trap::fault(c, outcome::fault_of(q), trap::next_pc(c), mem, tlb, hint);
+        return trap::fault(c, contracts::fault_of(q), trap::next_pc(c), mem, tlb, hint);
     };
     let pc = memory::load4(mem, y);
     returned(c, code, pc)

@@ -5,7 +5,7 @@ ghost use lib.ListN.{length};
 ghost use Rattle.buffer.specs.Held.{Buffer};
 ghost use Rattle.mmu.specs.Good.{Good};
 ghost use Rattle.rules.specs.System.{spagTree};
-ghost use Rattle.outcome.specs.Contract.{Finishes};
+ghost use Rattle.contracts.specs.Contract.{Finishes};
 use rules::Cpu;
 
 // n has pc moved on; memory and console stay.

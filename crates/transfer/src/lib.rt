@@ -8,12 +8,12 @@ ghost use Rattle.mmu.specs.Good.{Good};
 ghost use Rattle.rules.specs.Transfer.{formatSize, widened, loadTree, storeTree, pushTree, popTree};
 ghost use Rattle.rules.specs.Jump.{leaveTree};
 ghost use Rattle.rules.specs.Record.{withPc};
-ghost use Rattle.outcome.specs.Contract.{Executes};
+ghost use Rattle.contracts.specs.Contract.{Executes};
+use contracts::Done;
 use decode::Base;
 use decode::Format;
 use decode::Reg;
 use memory::Size;
-use outcome::Done;
 use paging::Access;
 use paging::Answer;
 use paging::Space;
@@ -65,13 +65,13 @@ pub fn load(
     ensures { λ x. ⌜ Executes (loadTree d b f imm r) space user [] (now (mem .entry)) (now (tlb .entry)) x (now (mem .exit)) (now (tlb .exit)) ⌝ }
 {
     let s = size(f);
-    let va = word::sum(registers::base(r, b), imm);
+    let va = word::sum(operations::base(r, b), imm);
     let p = mmu::translate(mem, tlb, hint, space, va, s, Access::Read, user);
     let Answer::At(q) = p else {
-        return outcome::refused(r, p);
+        return contracts::refused(r, p);
     };
     let v = value(mem, q, f);
-    outcome::fine(registers::put(r, d, v))
+    contracts::fine(operations::put(r, d, v))
 }
 
 // A store of register a.
@@ -89,13 +89,13 @@ pub fn store(
     requires { ⌜ Good (length (now mem)) (space .pdir) (now tlb) ⌝ }
     ensures { λ x. ⌜ Executes (storeTree b s imm r) space user [] (now (mem .entry)) (now (tlb .entry)) x (now (mem .exit)) (now (tlb .exit)) ⌝ }
 {
-    let va = word::sum(registers::base(r, b), imm);
+    let va = word::sum(operations::base(r, b), imm);
     let p = mmu::translate(mem, tlb, hint, space, va, s, Access::Write, user);
     let Answer::At(q) = p else {
-        return outcome::refused(r, p);
+        return contracts::refused(r, p);
     };
     memory::store(mem, q, s, r.a);
-    outcome::fine(r)
+    contracts::fine(r)
 }
 
 // ---- the stack
@@ -117,10 +117,10 @@ pub fn push(
     let top = word::difference(r.sp, 8);
     let p = mmu::translate(mem, tlb, hint, space, top, Size::Word, Access::Write, user);
     let Answer::At(q) = p else {
-        return outcome::refused(r, p);
+        return contracts::refused(r, p);
     };
     memory::store(mem, q, Size::Word, v);
-    outcome::fine(outcome::regs(r, r.a, r.b, r.c, top / 8 * 8, pc))
+    contracts::fine(contracts::regs(r, r.a, r.b, r.c, top / 8 * 8, pc))
 }
 
 // The word at sp goes to a register, and sp rises.
@@ -138,12 +138,12 @@ pub fn pop(
 {
     let p = mmu::translate(mem, tlb, hint, space, r.sp, Size::Word, Access::Read, user);
     let Answer::At(q) = p else {
-        return outcome::refused(r, p);
+        return contracts::refused(r, p);
     };
     let v = memory::load4(mem, q);
-    let mut n = registers::put(r, d, v);
+    let mut n = operations::put(r, d, v);
     n.sp = word::sum(r.sp, 8) / 8 * 8;
-    outcome::fine(n)
+    contracts::fine(n)
 }
 
 // LEV: pc is the word at sp, and sp rises by imm and 8.
@@ -161,9 +161,9 @@ pub fn leave(
 {
     let p = mmu::translate(mem, tlb, hint, space, r.sp, Size::Word, Access::Read, user);
     let Answer::At(q) = p else {
-        return outcome::refused(r, p);
+        return contracts::refused(r, p);
     };
     let v = memory::load4(mem, q);
     let s = word::sum(r.sp, word::sum(imm, 8));
-    outcome::fine(outcome::regs(r, r.a, r.b, r.c, s / 8 * 8, v / 4 * 4))
+    contracts::fine(contracts::regs(r, r.a, r.b, r.c, s / 8 * 8, v / 4 * 4))
 }

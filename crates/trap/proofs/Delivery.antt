@@ -17,8 +17,8 @@ use Rattle.rules.specs.Record.{withStop, withVadr}
 use Rattle.rules.specs.Tree.{ask, slots, slot}
 use Rattle.rules.specs.Step.{spaceAfter}
 use Rattle.rules.specs.Trap.{ended, kernelSp, codeOf, entered, framed, deliverTree, trapTree, faultTree}
-use Rattle.outcome.specs.Contract.{Finishes}
-use Rattle.outcome.proofs.Steps.{finishes-ended, finishes-first, finishes-second, finishes-both}
+use Rattle.contracts.specs.Contract.{Finishes}
+use Rattle.contracts.proofs.Steps.{finishes-ended, finishes-first, finishes-second, finishes-both}
 
 -- ---- a delivery
 

@@ -7,7 +7,7 @@ ghost use Rattle.mmu.specs.Good.{Good};
 ghost use Rattle.rules.specs.declared.Stop.the-variants.{Masked, NoFrame};
 ghost use Rattle.rules.specs.Record.{withStop, withVadr};
 ghost use Rattle.rules.specs.Trap.{kernelSp, codeOf, savedUsp, entered as enteredOf, nextPc, deliverTree, trapTree, faultTree};
-ghost use Rattle.outcome.specs.Contract.{Finishes};
+ghost use Rattle.contracts.specs.Contract.{Finishes};
 use memory::Size;
 use paging::Access;
 use paging::Answer;

@@ -28,7 +28,7 @@ use Rattle.runs.specs.UnderWay.{beginOf, outcome, Able, Proceeds}
 use Rattle.runs.proofs.Left.{left-least, left-running, end-left}
 use Rattle.v9.specs.Contract.{RunsAs, StepsAs}
 use Rattle.v9.proofs.Accepted.{accepted-record, allowance-some, allowance-most}
-use Rattle.outcome.specs.Contract.{endOf}
+use Rattle.contracts.specs.Contract.{endOf}
 
 -- the run under way g, with memory mem′ and console con′, is one from the record m with keys ks and a budget, with mem and con
 pub record UnderWay (ks : List Key) (budget : ℕ) (m : Machine) (mem con : List ℕ) (g : UnderWay) (mem′ con′ : List ℕ) : Type 0 where

@@ -1,4 +1,4 @@
-// Document 01, "Worked lines": `line::run_line` held to constant byte strings, at least one for each refusal and each stop reason. An executable is
+// Document 01, "Worked lines": `result_line::run_line` held to constant byte strings, at least one for each refusal and each stop reason. An executable is
 // written as its header (magic, bss, entry, data start) and its body. Refusal 1 is about M alone, and is never met: M is 32,768.
 
 // Writes what is compared and whether the executable's line is the one expected; where it is not, the line too.
@@ -6,7 +6,7 @@ fn compare(what: &[u8], file: &[u8], expected: &[u8]) {
     let mut memory = [0u8; 32768];
     let mut console = io::buffer();
     let mut shown = [0u8; 256];
-    let end = line::run_line(file, &mut memory, &mut console, &mut shown);
+    let end = result_line::run_line(file, &mut memory, &mut console, &mut shown);
     io::write_all(1, what);
     if check::same(&shown[..end], expected) {
         io::write_all(1, b": equal to ");

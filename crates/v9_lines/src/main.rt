@@ -81,7 +81,7 @@ fn print_next() -> bool {
     let mut memory = [0u8; 32768];
     let mut console = io::buffer();
     let mut shown = [0u8; 256];
-    let end = line::run_line(&file[..n], &mut memory, &mut console, &mut shown);
+    let end = result_line::run_line(&file[..n], &mut memory, &mut console, &mut shown);
     if !io::write_all(1, &shown[..end]) {
         return false;
     }

@@ -6,7 +6,7 @@ fn main() {
     let mut memory = [0u8; 32768];
     let mut console = io::buffer();
     let mut shown = [0u8; 256];
-    let end = line::run_line(&file[..n], &mut memory, &mut console, &mut shown);
+    let end = result_line::run_line(&file[..n], &mut memory, &mut console, &mut shown);
     io::write_all(1, &shown[..end]);
     io::write_all(1, b"\n");
 }

@@ -1,5 +1,5 @@
 -- `block::block` meets its contract. Assumes nothing.
-use Rattle.outcome.proofs.Laws.{executes-fine}
+use Rattle.contracts.proofs.Laws.{executes-fine}
 use Rattle.rules.specs.Block.{blockTree}
 use borrow.Author.Tests.{ne-eqb, eq-eqb}
 use borrow.Author.Needs.{needs}

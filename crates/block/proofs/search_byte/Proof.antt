@@ -1,5 +1,5 @@
 -- `block::search_byte` meets its contract. Assumes nothing.
-use Rattle.outcome.proofs.Laws.{executes-denied, executes-read, executes-fine}
+use Rattle.contracts.proofs.Laws.{executes-denied, executes-read, executes-fine}
 use Rattle.rules.specs.Block.{byteTree}
 use Rattle.mmu.proofs.Laws.{at-within}
 use Rattle.memory.specs.declared.Size.the-variants.{Byte}

@@ -1,6 +1,6 @@
 -- `execute::compute_stack` meets its contract. Assumes nothing.
 use borrow.Author.Needs.{needs}
-use Rattle.outcome.proofs.Laws.{executes-denied, executes-read}
+use Rattle.contracts.proofs.Laws.{executes-denied, executes-read}
 use Rattle.rules.specs.Arithmetic.{aluFrom}
 use Rattle.mmu.proofs.Laws.{at-within}
 use Rattle.memory.specs.declared.Size.the-variants.{Word}

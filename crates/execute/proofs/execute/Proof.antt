@@ -1,7 +1,7 @@
 -- `execute::execute` meets its contract. Assumes nothing.
 use borrow.Author.Needs.{needs}
 use Rattle.rules.specs.Execute.{executeTree}
-use Rattle.outcome.proofs.Laws.{executes-fine, executes-trap, executes-system}
+use Rattle.contracts.proofs.Laws.{executes-fine, executes-trap, executes-system}
 use Rattle.execute.proofs.Laws.{executes-alu}
 use Rattle.execute.proofs.execute.Statement.{statement}
 use Rattle.execute.proofs.execute.Tie as tie

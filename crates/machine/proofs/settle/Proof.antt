@@ -1,6 +1,6 @@
 -- `machine::settle` meets its contract. Assumes nothing.
 use borrow.Author.Needs.{needs}
-use Rattle.outcome.proofs.Steps.{finishes-ended}
+use Rattle.contracts.proofs.Steps.{finishes-ended}
 use Rattle.rules.specs.Step.{spaceAfter, settleTree}
 use Rattle.machine.proofs.Settling.{settle-at, settle-trap, settle-refused}
 use Rattle.machine.proofs.settle.Statement.{statement}

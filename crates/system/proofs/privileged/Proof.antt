@@ -1,7 +1,7 @@
 -- `system::privileged` meets its contract. Assumes nothing.
 use borrow.Author.Needs.{needs}
 use Rattle.rules.specs.System.{boutTree, spagTree, privilegedTree}
-use Rattle.outcome.proofs.Steps.{finishes-ended}
+use Rattle.contracts.proofs.Steps.{finishes-ended}
 use Rattle.rules.specs.Step.{spaceAfter}
 use Rattle.system.proofs.Rest.{privileged-at, time-ends}
 use Rattle.system.proofs.Choices.{moved-good, from-moved}

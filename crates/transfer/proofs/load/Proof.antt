@@ -1,7 +1,7 @@
 -- `transfer::load` meets its contract. Assumes nothing.
 use mathlib.Core.Path.{refl}
 use borrow.Author.Needs.{needs}
-use Rattle.outcome.proofs.Laws.{executes-denied, executes-read, executes-fine}
+use Rattle.contracts.proofs.Laws.{executes-denied, executes-read, executes-fine}
 use Rattle.rules.specs.Transfer.{loadTree}
 use Rattle.mmu.proofs.Laws.{at-within}
 use Rattle.transfer.proofs.load.Statement.{statement}

@@ -1,6 +1,6 @@
 -- `transfer::push` meets its contract. Assumes nothing.
 use borrow.Author.Needs.{needs}
-use Rattle.outcome.proofs.Laws.{executes-denied, executes-written}
+use Rattle.contracts.proofs.Laws.{executes-denied, executes-written}
 use Rattle.rules.specs.Transfer.{pushTree}
 use Rattle.mmu.proofs.Laws.{at-within}
 use Rattle.memory.specs.declared.Size.the-variants.{Word}

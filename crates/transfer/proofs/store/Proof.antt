@@ -1,6 +1,6 @@
 -- `transfer::store` meets its contract. Assumes nothing.
 use borrow.Author.Needs.{needs}
-use Rattle.outcome.proofs.Laws.{executes-denied, executes-written}
+use Rattle.contracts.proofs.Laws.{executes-denied, executes-written}
 use Rattle.rules.specs.Transfer.{storeTree}
 use Rattle.mmu.proofs.Laws.{at-within}
 use Rattle.transfer.proofs.store.Statement.{statement}

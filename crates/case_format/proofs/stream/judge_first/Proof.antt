@@ -1,0 +1,22 @@
+-- `case_format::stream::judge_first` is safe and ends. Assumes nothing.
+use lib.Seq.{length-take-le}
+use native.Mathlib.Omega.{arith}
+use mathlib.Core.Path.{sym}
+use borrow.Author.Needs.{needs}
+use Rattle.case_format.proofs.stream.judge_first.Statement.{statement}
+use Rattle.case_format.proofs.stream.judge_first.Tie as tie
+
+returns : tie.Need-returns
+returns c = search needs
+
+slice-aggregate-judge : tie.Need-slice-aggregate-judge
+slice-aggregate-judge c = sym (length-take-le _ _ (omega arith))
+
+judge-requires : tie.Need-judge-requires
+judge-requires c κs = search needs
+
+returns-2 : tie.Need-returns-2
+returns-2 c = search needs
+
+pub judge-first-spec : {M : Type 1} → statement M
+judge-first-spec = tie.close (tie.spec returns slice-aggregate-judge judge-requires returns-2)

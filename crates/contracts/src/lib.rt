@@ -1,0 +1,82 @@
+// Document 01, "One step", the order of faults: how an instruction ends, in code.
+ghost use mathlib.Core.Path.{_≡_};
+ghost use Rattle.rules.specs.Record.{withA, withB, withC, withSp, withPc};
+ghost use Rattle.contracts.specs.Contract.{ok, bad, faultOf, refusedBy};
+use decode::SysOp;
+use paging::Answer;
+use paging::Fault;
+use rules::Regs;
+
+pub enum End {
+    Ok,
+    // The fetch was denied.
+    Unfetched(Fault),
+    // A fault without an address, or TRAP.
+    Trap(u32),
+    // An operand access was denied.
+    Refused(Fault),
+    // A privileged instruction, handled over the whole record.
+    System(SysOp),
+}
+
+// What an instruction leaves: how it ended, and where it ended well the registers.
+pub struct Done {
+    pub regs: Regs,
+    pub end: End,
+}
+
+// The registers with all set that instructions set. A struct that is copied and then changed costs the inner loop 11 instructions a step.
+pub fn regs(r: Regs, a: u32, b: u32, c: u32, sp: u32, pc: u32) -> Regs
+    ensures { λ x. ⌜ x ≡ withA a (withB b (withC c (withSp sp (withPc pc r)))) ⌝ }
+{
+    Regs {
+        a,
+        b,
+        c,
+        sp,
+        pc,
+        count: r.count,
+    }
+}
+
+pub fn fine(r: Regs) -> Done
+    ensures { λ d. ⌜ d ≡ ok r ⌝ }
+{
+    Done {
+        regs: r,
+        end: End::Ok,
+    }
+}
+
+pub fn ended(r: Regs, e: End) -> Done
+    ensures { λ d. ⌜ d ≡ bad r e ⌝ }
+{
+    Done { regs: r, end: e }
+}
+
+// The fault of a denied access.
+pub fn fault_of(a: Answer) -> Fault
+    ensures { λ f. ⌜ f ≡ faultOf a ⌝ }
+{
+    match a {
+        Answer::At(_) => Fault {
+            code: 0,
+            address: 0,
+        },
+        Answer::Denied(f) => f,
+    }
+}
+
+// The end of an instruction whose operand access was denied. The fault is put together anew: copied whole, it keeps every instruction's end in memory.
+pub fn refused(r: Regs, a: Answer) -> Done
+    ensures { λ d. ⌜ d ≡ refusedBy r a ⌝ }
+{
+    let f = fault_of(a);
+    Done {
+        regs: r,
+        end: End::Refused(Fault {
+            code: f.code,
+            address: f.address,
+        }),
+    }
+}
