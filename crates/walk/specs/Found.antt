@@ -32,7 +32,7 @@ abbrev pub walkResult : PageWalk → List ℕ → WalkResult
 walkResult r m = record { answer = r; mem = m }
 
 -- a walk of the rules, without its events
-unfoldable pub walkedBy : Walk.WalkResult → WalkResult
+unfoldable pub walkedBy : Walk.Walked → WalkResult
 unfolding foundBy
 walkedBy w = walkResult (foundBy (w .found)) (w .mem)
 
