@@ -84,12 +84,12 @@ fn slots_ok(m: Machine, size: usize) -> bool
 pub fn refusal(
     m: Machine,
     size: usize,
-    console_size: usize,
+    capacity: usize,
     rising: bool,
     keys: usize,
     budget: u64,
 ) -> RunAnswer
-    ensures { λ r. ⌜ r ≡ refusalOf m size console_size rising keys budget ⌝ }
+    ensures { λ r. ⌜ r ≡ refusalOf m size capacity rising keys budget ⌝ }
 {
     if !memory::size_ok(size) {
         return RunAnswer::BadSize;
@@ -103,7 +103,7 @@ pub fn refusal(
     if !(rising & (m.cpu.clock.taken <= keys)) {
         return RunAnswer::BadKeys;
     }
-    if !(m.cpu.written <= console_size) {
+    if !(m.cpu.written <= capacity) {
         return RunAnswer::BadConsole;
     }
     if !(budget <= 1000000) {

@@ -51,14 +51,14 @@ fn allowance(a: RunAnswer, budget: u64) -> u64
 pub fn begin(
     m: Machine,
     size: usize,
-    console_size: usize,
+    capacity: usize,
     rising: bool,
     keys: usize,
     budget: u64,
 ) -> UnderWay
-    ensures { λ g. ⌜ g ≡ beginOf m size console_size rising keys budget ⌝ }
+    ensures { λ g. ⌜ g ≡ beginOf m size capacity rising keys budget ⌝ }
 {
-    let answer = refusals::refusal(m, size, console_size, rising, keys, budget);
+    let answer = refusals::refusal(m, size, capacity, rising, keys, budget);
     let c = m.cpu;
     let stop = c.stop;
     let left = left_of(stop, allowance(answer, budget));

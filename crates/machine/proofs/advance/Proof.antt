@@ -35,8 +35,8 @@ instructions-requires c κs =
     let pre = c .before .before .before .before .before .before .before .before .before .pre in
     ((pre .0 .good, omega arith), (refl, refl))
 
-raise_count-requires : tie.Need-raise_count-requires
-raise_count-requires c κs =
+raise-count-requires : tie.Need-raise-count-requires
+raise-count-requires c κs =
     let instructions = c .before .before .before .before .before .before .instructions in
     let steps = c .before .before .before .before .before .before .before .before .before .before .before .before .steps in
     let pre = c .before .before .before .before .before .before .before .before .before .before .before .before .before .before .before .before .pre in
@@ -47,7 +47,7 @@ after-requires c κs =
     let steps = c .before .before .before .before .before .before .before .before .before .before .before .before .before .steps in
     let if1 = c .before .before .before .before .before .before .before .before .before .before .before .before .if1 in
     let instructions = c .before .before .before .before .before .before .before .instructions in
-    rw (c .raise_count .ensures) (early-room _ _ _ (steps .ensures) (omega (arith, if1 .left)) (instructions .ensures) (not-ok _ (c .before .match .keys2)))
+    rw (c .raise-count .ensures) (early-room _ _ _ (steps .ensures) (omega (arith, if1 .left)) (instructions .ensures) (not-ok _ (c .before .match .keys2)))
 
 settle-requires : tie.Need-settle-requires
 settle-requires c κs =
@@ -90,7 +90,7 @@ returns-2 : tie.Need-returns-2
 returns-2 c =
     let after = c .before .before .before .before .before .before .before .before .before .before .before .before .before .after in
     let given = c .before .before .before .before .before .before .before .before .before .before .before .before .before .before .before .before .before .before .before .before .before .before .before .before .before .before .before .before .before .before .before .args in
-    let raiseCount = c .before .before .before .before .before .before .before .before .before .before .before .before .before .before .raise_count in
+    let raiseCount = c .before .before .before .before .before .before .before .before .before .before .before .before .before .before .raise-count in
     let pre = c .before .before .before .before .before .before .before .before .before .before .before .before .before .before .before .before .before .before .before .before .before .before .before .before .before .before .before .before .before .before .before .pre in
     let steps = c .before .before .before .before .before .before .before .before .before .before .before .before .before .before .before .before .before .before .before .before .before .before .before .before .before .before .before .steps in
     let if1 = c .before .before .before .before .before .before .before .before .before .before .before .before .before .before .before .before .before .before .before .before .before .before .before .before .before .before .if1 in
@@ -136,7 +136,7 @@ advance-spec =
     add-instructions
     instructions-requires
     (λ c. search needs)
-    raise_count-requires
+    raise-count-requires
     after-requires
     settle-requires
     sub-t39

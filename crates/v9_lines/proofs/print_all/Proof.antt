@@ -13,8 +13,8 @@ abbrev μ-loop : tie.MeasureT-loop
 loop-holds : tie.Need-loop-holds Inv-loop μ-loop
 loop-holds c = search needs
 
-print_next-requires : tie.Need-print_next-requires Inv-loop μ-loop
-print_next-requires c κs = search needs
+print-next-requires : tie.Need-print-next-requires Inv-loop μ-loop
+print-next-requires c κs = search needs
 
 add-lines : tie.Need-add-lines Inv-loop μ-loop
 add-lines c = search needs
@@ -31,14 +31,14 @@ returns c = search needs
 returns-2 : tie.Need-returns-2 Inv-loop μ-loop
 returns-2 c = search needs
 
-pub print_all-spec : {M : Type 1} → statement M
-print_all-spec =
+pub print-all-spec : {M : Type 1} → statement M
+print-all-spec =
     tie.close
     (tie.spec
     Inv-loop
     μ-loop
     loop-holds
-    print_next-requires
+    print-next-requires
     add-lines
     loop-less
     loop-again

@@ -56,8 +56,8 @@ write-all-requires-2 c κs = search needs
 returns-3 : tie.Need-returns-3
 returns-3 c = search needs
 
-pub print_next-spec : {M : Type 1} → statement M
-print_next-spec =
+pub print-next-spec : {M : Type 1} → statement M
+print-next-spec =
     tie.close
     (tie.spec
     slice-aggregate-read-file
