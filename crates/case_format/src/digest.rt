@@ -1,5 +1,5 @@
 // reference/FORMAT.md, "Digest": two numbers for many bytes.
-ghost use Prim.Native.Nat.{_+_, _<_, _≤_, _^_};
+ghost use Prim.Native.Nat.{_<_, _^_};
 
 // One more word.
 fn mix(x: u64, w: u64, second: bool) -> u64

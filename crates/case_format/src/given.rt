@@ -1,6 +1,5 @@
 // reference/FORMAT.md, "Cases": numbers of a case's bytes, and its bytes copied.
-ghost use Prim.Native.Nat.{_+_, _≤_, _<_, _^_};
-ghost use lib.ListN.{length};
+ghost use Prim.Native.Nat.{_≤_, _<_, _^_};
 
 // How many numbers the record has, and the place after them, where the slots begin.
 pub const NUMBERS: usize = 19;

@@ -1,5 +1,5 @@
 // reference/FORMAT.md, "The last line": a case is judged whole before any of it is run, by its bytes alone.
-ghost use Prim.Native.Nat.{_+_, _≤_, _<_, _^_};
+ghost use Prim.Native.Nat.{_≤_, _<_, _^_};
 ghost use lib.ListN.{length};
 use crate::given::NUMBERS;
 use crate::given::SLOTS;

@@ -1,6 +1,4 @@
 // reference/FORMAT.md, "Cases" and "The last line": a case from standard input, and the line after the last.
-ghost use Prim.Native.Nat.{_≤_};
-ghost use lib.ListN.{length};
 use crate::given::place;
 use crate::judged::Judged;
 use crate::judged::judge;
