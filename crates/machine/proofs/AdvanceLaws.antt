@@ -6,7 +6,7 @@ use mathlib.Core.Path.{_≡_, refl, sym, ap, _∙_, subst}
 use lib.ListN.{length}
 use Rattle.paging.specs.declared.Entry.{Entry}
 use Rattle.mmu.specs.Good.{Good}
-use Rattle.mmu.specs.Translates.{Kept, state as result, keptIn, translator}
+use Rattle.mmu.specs.Translates.{Kept, result, keptIn, translator}
 use Rattle.rules.specs.declared.Cpu.{Cpu}
 use Rattle.rules.specs.declared.Key.{Key}
 use Rattle.rules.specs.declared.Next.{Next}

@@ -11,7 +11,7 @@ use denote.Enum.Declared as Declared
 use Rattle.paging.specs.declared.Entry.{Entry}
 use Rattle.paging.specs.declared.Space.{Space}
 use Rattle.mmu.specs.Good.{Good}
-use Rattle.mmu.specs.Translates.{Kept, state as result, keptIn, translator}
+use Rattle.mmu.specs.Translates.{Kept, result, keptIn, translator}
 use Rattle.rules.specs.declared.Regs.{Regs}
 use Rattle.rules.specs.declared.Cpu.{Cpu}
 use Rattle.rules.specs.declared.Key.{Key}

@@ -4,7 +4,7 @@ use Prim.Native.Nat.{ℕ}
 use mathlib.Core.List.{List, []}
 use mathlib.Core.Path.{_≡_, refl, sym, ap, _∙_}
 use Rattle.paging.specs.declared.Entry.{Entry}
-use Rattle.mmu.specs.Translates.{Kept, State as Result, keptIn, translator}
+use Rattle.mmu.specs.Translates.{Kept, Result, keptIn, translator}
 use Rattle.rules.specs.declared.Cpu.{Cpu}
 use Rattle.rules.specs.Tree.{Tree, bind, Grant, storeAll, interpret}
 use Rattle.rules.specs.Outcome.{Out, fine, unfetched, trap, refused, system}

@@ -4,7 +4,7 @@ use mathlib.Core.List.{List, []}
 use mathlib.Core.Path.{_≡_, refl, ap}
 use lib.ListN.{length}
 use Rattle.paging.specs.declared.Entry.{Entry}
-use Rattle.mmu.specs.Translates.{state as result, translator}
+use Rattle.mmu.specs.Translates.{result, translator}
 use Rattle.rules.specs.declared.Regs.{Regs}
 use Rattle.rules.specs.declared.Cpu.{Cpu}
 use Rattle.rules.specs.Record.{withCount, withRegs}

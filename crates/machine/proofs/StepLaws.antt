@@ -7,7 +7,7 @@ use mathlib.Core.Path.{_≡_, refl, sym, ap, _∙_, subst}
 use lib.ListN.{length}
 use Rattle.word.specs.Word.{if_then_else_}
 use Rattle.mmu.specs.Good.{Good}
-use Rattle.mmu.specs.Translates.{state as result, keptIn, translator}
+use Rattle.mmu.specs.Translates.{result, keptIn, translator}
 use Rattle.rules.specs.declared.Cpu.{Cpu}
 use Rattle.rules.specs.declared.Next.{Next}
 use Rattle.rules.specs.Tree.{bind, interpret}

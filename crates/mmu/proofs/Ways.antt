@@ -21,7 +21,7 @@ use Rattle.paging.specs.Buffer.{hit, keep, afterWalk}
 use Rattle.paging.specs.Translate.{Request, inFrame, denied, direct, answerOf, refilled, pagedBy, paged, translateBy}
 use Rattle.walk.specs.declared.PageWalk.{PageWalk}
 use Rattle.walk.specs.declared.PageWalk.the-variants.{Mapped, Faulted}
-use Rattle.walk.specs.Found.{Walked, walked, foundBy, walkedBy}
+use Rattle.walk.specs.Found.{WalkResult, walkResult, foundBy, walkedBy}
 use Rattle.walk.proofs.Bounds.{FrameIn, frame-in}
 use Rattle.buffer.specs.declared.Hit.{Hit}
 use Rattle.buffer.specs.declared.Hit.the-variants.{Frame, Miss}
@@ -62,11 +62,11 @@ frame-found n (found f′ u′ w′ da ta) {f} e h = let q : f′ ≡ f = cc in 
 
 -- a frame that a walk found has a number of fifteen bits
 pub frame-small : (m : List ℕ) (pdir page : ℕ) (k : Access) (user : Bool) {l m′ : List ℕ} {r : PageWalk} {f : ℕ} {u w : Bool}
-    → Good (length m) pdir l → walked r m′ ≡ walkedBy (walk m pdir page k user) → r ≡ Mapped f u w → f < frames
+    → Good (length m) pdir l → walkResult r m′ ≡ walkedBy (walk m pdir page k user) → r ≡ Mapped f u w → f < frames
 unfolding walkedBy
 frame-small m pdir page k user {l} {m′} {r} {f} g p e =
     let i = frame-in m pdir page k user (g .directory .whole) in
-    let h : f < length m / 4096 = frame-found (length m) _ (ap (λ (x : Walked). x .answer) (sym p) ∙ e) i in
+    let h : f < length m / 4096 = frame-found (length m) _ (ap (λ (x : WalkResult). x .answer) (sym p) ∙ e) i in
     omega (arith, g .directory .small)
 
 -- an entry is kept where its page was looked up
@@ -74,13 +74,13 @@ pub kept-at : (es : List Entry) (e : ℕ) {i p f : ℕ} {u w : Bool} → unpack 
 kept-at es e {i} {p} k h = let s : pageIn e ≡ p = ap (λ (x : Entry). x .page) k in rw s h
 
 module _ (pdir : ℕ) (q : Request) (m l : List ℕ) (g : Good (length m) pdir l) (small : q .addr < 4294967296)
-    {r : PageWalk} {m′ : List ℕ} (p : walked r m′ ≡ walkedBy (walk m pdir (q .addr / 4096) (q .kind) (q .user))) where
+    {r : PageWalk} {m′ : List ℕ} (p : walkResult r m′ ≡ walkedBy (walk m pdir (q .addr / 4096) (q .kind) (q .user))) where
   refill-by : result (answerFor q r) m′ (keptFor (q .addr / 4096) (entriesIn l) r) ≡ seen (pagedBy none pdir q m (entriesIn l))
   unfolding pagedBy refilled walkedBy
   refill-by =
       let w = walk m pdir (q .addr / 4096) (q .kind) (q .user) in
-      let f : r ≡ foundBy (w .found) = ap (λ (x : Walked). x .answer) p in
-      let e : m′ ≡ w .mem = ap (λ (x : Walked). x .mem) p in
+      let f : r ≡ foundBy (w .found) = ap (λ (x : WalkResult). x .answer) p in
+      let e : m′ ≡ w .mem = ap (λ (x : WalkResult). x .mem) p in
       rw (page-is (q .addr) small, f, e, answer-found q (w .found), kept-found (q .addr / 4096) (entriesIn l) (w .found))
 
   pub refill-mapped : (e : ℕ) {f : ℕ} {u w : Bool} {at : ℕ} {l′ : List ℕ} → r ≡ Mapped f u w → unpack e ≡ entry (q .addr / 4096) f u w

@@ -31,7 +31,7 @@ use Rattle.v9.proofs.Accepted.{accepted-record, allowance-some, allowan
 use Rattle.contracts.specs.Contract.{endOf}
 
 -- the run under way g, with memory mem′ and console con′, is one from the record m with keys ks and a budget, with mem and con
-pub record UnderWay (ks : List Key) (budget : ℕ) (m : Machine) (mem con : List ℕ) (g : UnderWay) (mem′ con′ : List ℕ) : Type 0 where
+pub record Continues (ks : List Key) (budget : ℕ) (m : Machine) (mem con : List ℕ) (g : UnderWay) (mem′ con′ : List ℕ) : Type 0 where
   pub able : 0 < g .left → Able g (length mem′)
   pub answer : g .ran .answer ≡ run buffered ks budget (viewOf m mem con) .answer
   pub steps : g .ran .machine .cpu .regs .count ≡ m .cpu .regs .count + g .ran .steps
@@ -83,7 +83,7 @@ module _ (ks : List Key) (budget : ℕ) (m : Machine) (mem con : List ℕ) where
         steps = omega arith;
       }
 
-  begun-under : UnderWay ks budget m mem con begun mem con
+  begun-under : Continues ks budget m mem con begun mem con
   unfolding beginOf run
   begun-under = record {
     able = begun-able;
@@ -93,9 +93,9 @@ module _ (ks : List Key) (budget : ℕ) (m : Machine) (mem con : List ℕ) where
     state = sym (end-left ks (allowance first-answer budget) start) ∙ ap (λ (a : RunAnswer). endOf ks (allowance a budget) start) answers;
   }
 
-  module _ {g : UnderWay} {mem′ con′ : List ℕ} (u : UnderWay ks budget m mem con g mem′ con′) where
+  module _ {g : UnderWay} {mem′ con′ : List ℕ} (u : Continues ks budget m mem con g mem′ con′) where
     pub under-next : {k : Next} {r : UnderWay} {mem″ con″ : List ℕ} → k ≡ nextOf ks (g .taken) → Proceeds g k mem′ con′ r mem″ con″
-        → UnderWay ks budget m mem con r mem″ con″
+        → Continues ks budget m mem con r mem″ con″
     under-next {r = r} q p = record {
       able = p .able;
       answer = p .answer ∙ u .answer;
@@ -128,16 +128,16 @@ module _ (ks : List Key) (budget : ℕ) (m : Machine) (mem con : List ℕ) where
     unfolding beginOf
     first-machine = ap (λ (x : UnderWay). x .ran .machine) as-begun
 
-    pub under-first : UnderWay ks budget m mem con g mem con
-    under-first = subst (λ (x : UnderWay). UnderWay ks budget m mem con x mem con) (sym as-begun) begun-under
+    pub under-first : Continues ks budget m mem con g mem con
+    under-first = subst (λ (x : UnderWay). Continues ks budget m mem con x mem con) (sym as-begun) begun-under
 
 -- of a run whose record stands only in its first stage g
 module _ (ks : List Key) (budget : ℕ) (m : Machine) (mem con : List ℕ) {rising : Bool} {n : ℕ} (p : rising ≡ keysRise 0 ks) (q : n ≡ length ks) {g : UnderWay}
     (e : g ≡ beginOf m (length mem) (length con) rising n budget) where
-  pub under-start : UnderWay ks budget (g .ran .machine) mem con g mem con
-  under-start = subst (λ (x : Machine). UnderWay ks budget x mem con g mem con) (sym (first-machine ks budget m mem con p q e)) (under-first ks budget m mem con p q e)
+  pub under-start : Continues ks budget (g .ran .machine) mem con g mem con
+  under-start = subst (λ (x : Machine). Continues ks budget x mem con g mem con) (sym (first-machine ks budget m mem con p q e)) (under-first ks budget m mem con p q e)
 
-  pub under-end : {r : UnderWay} {mem′ con′ : List ℕ} → UnderWay ks budget (g .ran .machine) mem con r mem′ con′ → r .left ≤ 0
+  pub under-end : {r : UnderWay} {mem′ con′ : List ℕ} → Continues ks budget (g .ran .machine) mem con r mem′ con′ → r .left ≤ 0
       → RunsAs ks budget m mem con (r .ran) mem′ con′
   under-end {r} {mem′} {con′} u h =
       subst (λ (x : Machine). RunsAs ks budget x mem con (r .ran) mem′ con′) (first-machine ks budget m mem con p q e)

@@ -55,7 +55,7 @@ use Rattle.runs.specs.declared.UnderWay.{UnderWay}
 use Rattle.runs.specs.UnderWay.{beginOf, Able, Proceeds}
 use Rattle.clock.specs.Due.{KeyFits}
 use Rattle.v9.specs.Contract.{RunsAs}
-use Rattle.v9.proofs.UnderWay.{UnderWay, key-fits, under-first, under-next, under-last}
+use Rattle.v9.proofs.UnderWay.{Continues, key-fits, under-first, under-next, under-last}
 use Rattle.v9.proofs.Again.{LentAgain, lends-again-at, comes-back-at}
 use Rattle.rules.proofs.Key as K
 use Rattle.rules.proofs.Next as N
@@ -222,7 +222,7 @@ module _ {M : Type 1} (𝓤 : URA M) (H : Heap 𝓤) (A : Atoms 𝓤) (W : Given
     g-is : Is G.the-row g (machG g ∷ [])
     lz : length zs ≡ length ys
     ld : length ds ≡ length cs
-    under : UnderWay ks budget h ys cs g zs ds
+    under : Continues ks budget h ys cs g zs ds
 
   abbrev Nearer : Turn → Turn → Type 0
   Nearer t u = t .g .left < u .g .left

@@ -1,5 +1,5 @@
 -- `v9::run_packed` meets its contract. Assumes nothing.
-use Rattle.v9.proofs.UnderWay.{UnderWay, key-fits, under-start, under-next, under-end}
+use Rattle.v9.proofs.UnderWay.{Continues, key-fits, under-start, under-next, under-end}
 use Rattle.v9.proofs.Packed.{packed-length}
 use Rattle.keys.specs.Packed.{unpacked}
 use borrow.Author.Needs.{needs}
@@ -11,7 +11,7 @@ use Rattle.v9.proofs.run_packed.Tie as tie
 
 abbrev Inv-loop : tie.InvT-loop
 Inv-loop mem₀ console₀ keys budget rising g₀ mem console g =
-    (length mem ≡ length mem₀) × ((length console ≡ length console₀) × UnderWay (unpacked keys) budget (g₀ .ran .machine) mem₀ console₀ g mem console)
+    (length mem ≡ length mem₀) × ((length console ≡ length console₀) × Continues (unpacked keys) budget (g₀ .ran .machine) mem₀ console₀ g mem console)
 
 abbrev μ-loop : tie.MeasureT-loop
 μ-loop mem₀ console₀ keys budget rising g₀ mem console g = g .left
