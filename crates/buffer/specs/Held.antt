@@ -56,8 +56,8 @@ indexOf p (e ∷ es) = if eqb (e .page) p then 0 else suc (indexOf p es)
 
 -- what slot i gives for page p: its frame, if its entry is counted, is of the page, and serves the access
 unfoldable pub slotHit : List ℕ → ℕ → ℕ → Access → Bool → Hit
-slotHit l i p k user =
-    if ltb i (count l) && (eqb (unpack (getD l i 0) .page) p && serves (unpack (getD l i 0)) k user) then Frame (unpack (getD l i 0) .frame) else Miss
+slotHit l i p kind user =
+    if ltb i (count l) && (eqb (unpack (getD l i 0) .page) p && serves (unpack (getD l i 0)) kind user) then Frame (unpack (getD l i 0) .frame) else Miss
 
 -- the array lent for a page buffer
 pub record Buffer (l : List ℕ) : Type 0 where

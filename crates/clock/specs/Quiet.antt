@@ -16,7 +16,7 @@ least m n = if ltb m n then m else n
 
 -- how many of `left` steps after the step count `count` come before the next key's
 unfoldable pub beforeKey : Next → (count left : ℕ) → ℕ
-beforeKey k count left = if k .some then least (k .step - (count + 1)) left else left
+beforeKey next count left = if next .some then least (next .step - (count + 1)) left else left
 
 -- how many of `left` steps come before the timer fires
 unfoldable pub beforeTimer : Clock → (left : ℕ) → ℕ
@@ -25,12 +25,12 @@ beforeTimer t left = if eqb (t .timeout) 0 then left else least (t .timeout - t 
 -- in how many of the next `left` steps the clock only counts; none where the machine waits
 unfoldable pub quietSteps : Next → Cpu → (left : ℕ) → ℕ
 unfolding beforeKey beforeTimer
-quietSteps k c left = if c .system .waiting then 0 else beforeTimer (c .clock) (beforeKey k (c .regs .count) left)
+quietSteps next c left = if c .system .waiting then 0 else beforeTimer (c .clock) (beforeKey next (c .regs .count) left)
 
 -- from c, up to the step count `limit`, the clock only counts
-pub record Quiet (k : Next) (c : Cpu) (limit : ℕ) : Type 0 where
+pub record Quiet (next : Next) (c : Cpu) (limit : ℕ) : Type 0 where
   pub awake : c .system .waiting ≡ false
-  pub key : k .some ≡ true → limit < k .step
+  pub key : next .some ≡ true → limit < next .step
   pub timer : (c .clock .timeout ≡ 0 → ⊥) → c .clock .timer + (limit - c .regs .count) ≤ c .clock .timeout
 
 -- the timer at the step count n, after such steps from c

@@ -77,7 +77,7 @@ stateOf c m con l = record { cpu = c; mem = m; console = con; buffer = keptIn l 
 abbrev pub endOf : List Key → ℕ → State Kept → State Kept
 endOf ks n s = lastOf s (stepsOf translator ks n s)
 
--- from the record k, memory m, console con and buffer l: the code answered c, with m′, con′ and l′, as the tree says
-pub record Finishes (t : Tree Final) (k : Cpu) (m con l : List ℕ) (c : Cpu) (m′ con′ l′ : List ℕ) : Type 0 where
-  pub same : stateOf c m′ con′ l′ ≡ finished translator (k .regs .count) (k .space) (k .written) con (interpret translator (k .space) (k .system .user) t m (keptIn l) [])
+-- from the record `old`, memory m, console con and buffer l: the code answered c, with m′, con′ and l′, as the tree says
+pub record Finishes (t : Tree Final) (old : Cpu) (m con l : List ℕ) (c : Cpu) (m′ con′ l′ : List ℕ) : Type 0 where
+  pub same : stateOf c m′ con′ l′ ≡ finished translator (old .regs .count) (old .space) (old .written) con (interpret translator (old .space) (old .system .user) t m (keptIn l) [])
   pub good : Good (length m′) (c .space .pdir) l′

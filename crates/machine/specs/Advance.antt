@@ -22,11 +22,11 @@ pub record Ready (c : Cpu) (left : ℕ) (m l : List ℕ) : Type 0 where
   pub count : c .regs .count + left < 2 ^ 64
 
 -- what is left falls, and the run ends in the same state; where the machine stops on the way, steps may be left
-pub record Advances (c : Cpu) (left : ℕ) (k : Next) (m con l : List ℕ) (g : Advanced) (m′ con′ l′ : List ℕ) : Type 0 where
+pub record Advances (c : Cpu) (left : ℕ) (next : Next) (m con l : List ℕ) (g : Advanced) (m′ con′ l′ : List ℕ) : Type 0 where
   pub good : Good (length m′) (g .cpu .space .pdir) l′
   pub less : g .left < left
   pub count : g .cpu .regs .count + g .left ≡ c .regs .count + left
   pub size : length m′ ≡ length m
-  pub same : (ks : List Key) → nextOf ks (c .clock .taken) ≡ k
+  pub same : (ks : List Key) → nextOf ks (c .clock .taken) ≡ next
       → endOf ks left (stateOf c m con l)
       ≡ endOf ks (g .left) (stateOf (g .cpu) m′ con′ l′)

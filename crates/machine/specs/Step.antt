@@ -10,7 +10,7 @@ use Rattle.rules.specs.declared.Next.{Next}
 use Rattle.rules.specs.Step.{stepBy}
 use Rattle.contracts.specs.Contract.{stateOf}
 
--- from the record c, memory m, console con and buffer l, with the next key k: the code answered x, with m′, con′ and l′
-pub record Steps (c : Cpu) (k : Next) (m con l : List ℕ) (x : Cpu) (m′ con′ l′ : List ℕ) : Type 0 where
-  pub same : stateOf x m′ con′ l′ ≡ stepBy translator k (stateOf c m con l) .state
+-- from the record c, memory m, console con and buffer l, with the next key: the code answered x, with m′, con′ and l′
+pub record Steps (c : Cpu) (next : Next) (m con l : List ℕ) (x : Cpu) (m′ con′ l′ : List ℕ) : Type 0 where
+  pub same : stateOf x m′ con′ l′ ≡ stepBy translator next (stateOf c m con l) .state
   pub good : Good (length m′) (x .space .pdir) l′

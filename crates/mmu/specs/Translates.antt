@@ -17,7 +17,7 @@ use Rattle.mmu.specs.Good.{Good}
 
 -- an access
 abbrev pub request : Access → Size → ℕ → Bool → Request
-request k s a u = record { kind = k; size = bytes s; addr = a; user = u }
+request kind s a u = record { kind = kind; size = bytes s; addr = a; user = u }
 
 -- what the translator of the code holds, the translator itself, and what the lent array holds: the contracts from here up name these alone, so that what is
 -- held can grow in one place

@@ -13,12 +13,12 @@ use Rattle.paging.specs.Walk.{isWrite, Found, fault, found}
 -- "An entry serves a read (fetch included) in kernel mode or if it has user right, a write if write right is there too"
 unfoldable pub serves : Entry → Access → Bool → Bool
 unfolding isWrite
-serves e k user = (not user || e .user) && (not (isWrite k) || e .write)
+serves e kind user = (not user || e .user) && (not (isWrite kind) || e .write)
 
 -- the frame that an entry gives for a page, if one of them serves
 unfoldable pub hit : ℕ → Access → Bool → List Entry → Option ℕ
-hit p k user [] = none
-hit p k user (e ∷ es) = cond (eqb (e .page) p && serves e k user) (some (e .frame)) (hit p k user es)
+hit p kind user [] = none
+hit p kind user (e ∷ es) = cond (eqb (e .page) p && serves e kind user) (some (e .frame)) (hit p kind user es)
 
 -- lists of things that each have a page: of entries, and of the words of entries
 module _ {A : Type 0} (pageOf : A → ℕ) where

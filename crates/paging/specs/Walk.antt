@@ -20,7 +20,7 @@ isWrite Write = true
 
 -- the bit of value k is set in w
 unfoldable pub bit : ℕ → ℕ → Bool
-bit k w = eqb (w / k % 2) 1
+bit v w = eqb (w / v % 2) 1
 
 abbrev pub present : ℕ → Bool
 present w = bit 1 w
@@ -39,12 +39,12 @@ dirty w = bit 64 w
 
 -- w with the bit of value k set
 unfoldable pub setBit : ℕ → ℕ → ℕ
-setBit k w = w + k * (1 - w / k % 2)
+setBit v w = w + v * (1 - w / v % 2)
 
 -- a mark of the walk: the bit of value k, 0x20 or 0x40 and so in the low byte, is set in the word at a
 unfoldable pub mark : ℕ → List ℕ → ℕ → List ℕ
 unfolding setBit
-mark k m a = set m a (setBit k (getD m a 0))
+mark v m a = set m a (setBit v (getD m a 0))
 
 -- "Set A, for a write A and D"
 unfoldable pub markFor : Access → List ℕ → ℕ → List ℕ
@@ -54,7 +54,7 @@ markFor Write m a = mark 64 (mark 32 m a) a
 
 -- an event where these marks change the word w at a
 unfoldable pub markEvents : Access → ℕ → ℕ → List Event
-markEvents k w a = if accessed w && (not (isWrite k) || dirty w) then [] else (marked a ∷ [])
+markEvents kind w a = if accessed w && (not (isWrite kind) || dirty w) then [] else (marked a ∷ [])
 
 -- ---- the addresses of the two words
 
@@ -74,12 +74,12 @@ userOk dw tw user = not user || (forUser dw && forUser tw)
 
 -- "for a write W in both words"
 unfoldable pub writeOk : ℕ → ℕ → Access → Bool
-writeOk dw tw k = not (isWrite k) || (writable dw && writable tw)
+writeOk dw tw kind = not (isWrite kind) || (writable dw && writable tw)
 
 -- "It must have P, in user mode U in both words, for a write W in both words"
 unfoldable pub allows : ℕ → ℕ → Access → Bool → Bool
 unfolding userOk writeOk isWrite
-allows dw tw k user = present tw && userOk dw tw user && writeOk dw tw k
+allows dw tw kind user = present tw && userOk dw tw user && writeOk dw tw kind
 
 -- ---- the walk
 
@@ -105,25 +105,25 @@ walkFrame true es m dw tw da ta = record {
 -- the table word allows the access, "else page fault. Set A, for a write A and D"
 unfoldable pub walkTable : Bool → List Event → List ℕ → ℕ → ℕ → ℕ → ℕ → Access → Walked
 unfolding walkFrame
-walkTable false es m dw tw da ta k = record { mem = m; found = fault (pageFault k); events = es }
-walkTable true es m dw tw da ta k = walkFrame (ltb (cut 4096 tw) (length m)) (es ++ markEvents k tw ta) (markFor k m ta) dw tw da ta
+walkTable false es m dw tw da ta kind = record { mem = m; found = fault (pageFault kind); events = es }
+walkTable true es m dw tw da ta kind = walkFrame (ltb (cut 4096 tw) (length m)) (es ++ markEvents kind tw ta) (markFor kind m ta) dw tw da ta
 
 -- "if its frame address is not below M, FMEM"
 unfoldable pub walkBelow : Bool → List Event → List ℕ → ℕ → ℕ → ℕ → Access → Bool → Walked
 unfolding walkTable
-walkBelow false es m dw da page k user = record { mem = m; found = fault FMEM; events = es }
-walkBelow true es m dw da page k user =
-    walkTable (allows dw (loadN 4 m (tabAt dw page)) k user) es m dw (loadN 4 m (tabAt dw page)) da (tabAt dw page) k
+walkBelow false es m dw da page kind user = record { mem = m; found = fault FMEM; events = es }
+walkBelow true es m dw da page kind user =
+    walkTable (allows dw (loadN 4 m (tabAt dw page)) kind user) es m dw (loadN 4 m (tabAt dw page)) da (tabAt dw page) kind
 
 -- "Without P: page fault. Set A there"
 unfoldable pub walkDir : Bool → List ℕ → ℕ → ℕ → ℕ → Access → Bool → Walked
 unfolding walkBelow
-walkDir false m dw da page k user = record { mem = m; found = fault (pageFault k); events = walked ∷ [] }
-walkDir true m dw da page k user =
-    walkBelow (ltb (cut 4096 dw) (length m)) (walked ∷ markEvents Read dw da) (mark 32 m da) dw da page k user
+walkDir false m dw da page kind user = record { mem = m; found = fault (pageFault kind); events = walked ∷ [] }
+walkDir true m dw da page kind user =
+    walkBelow (ltb (cut 4096 dw) (length m)) (walked ∷ markEvents Read dw da) (mark 32 m da) dw da page kind user
 
 -- the walk of a page's tables from pdir
 unfoldable pub walk : List ℕ → ℕ → ℕ → Access → Bool → Walked
 unfolding walkDir
-walk m pdir page k user =
-    walkDir (present (loadN 4 m (dirAt pdir page))) m (loadN 4 m (dirAt pdir page)) (dirAt pdir page) page k user
+walk m pdir page kind user =
+    walkDir (present (loadN 4 m (dirAt pdir page))) m (loadN 4 m (dirAt pdir page)) (dirAt pdir page) page kind user

@@ -17,10 +17,10 @@ use Rattle.rules.specs.declared.Key.{Key}
 use Rattle.rules.specs.declared.Machine.{Machine}
 use Rattle.rules.specs.Record.{stopNumber}
 use Rattle.rules.specs.Load.{Loaded, loadBy, load}
-use Rattle.rules.specs.Run.{RunResult, run, reported}
+use Rattle.rules.specs.Run.{Ran, run, reported}
 use Rattle.rules.specs.Step.{State}
 use Rattle.refusals.specs.View.{firstSlots, entriesOf, viewOf}
-use Rattle.runs.specs.declared.RunResult.{RunResult as Went}
+use Rattle.runs.specs.declared.RunResult.{RunResult}
 use Rattle.v9.specs.Contract.{RunsAs}
 use Rattle.result_line.specs.Line.{stopLine, refusedLine, Shows}
 use Rattle.result_line.specs.Program.{startOf, runOf, ranLine, loadedLine, lineOf}
@@ -53,7 +53,7 @@ ran-by : (l : Loaded) (con : List ℕ) {n : ℕ} → n ≡ loadNumber (l .answer
 ran-by l con q z = rw (eq-eqb (loadNumber (l .answer)) 0 (sym q ∙ z))
 
 -- the line of a record in which a run ended
-ended : (ran : RunResult (List Entry)) (x : Machine) {n : ℕ} {m′ con′ : List ℕ} → n ≡ reported ran → viewOf x m′ con′ ≡ ran .state
+ended : (ran : Ran (List Entry)) (x : Machine) {n : ℕ} {m′ con′ : List ℕ} → n ≡ reported ran → viewOf x m′ con′ ≡ ran .state
     → stopLine (stopNumber (x .cpu .stop)) n (x .cpu .regs) ≡ ranLine ran
 ended ran x p q = rw (p, ← q)
 
@@ -62,7 +62,7 @@ module _ (file m con : List ℕ) {line : List ℕ} {r : ℕ} where
   unfolding lineOf
   shown-refused {l} {n} p q z s = subst (λ (t : List ℕ). Shows t line r) (refused-by l con q z ∙ ap (λ (k : Loaded). loadedLine k con) p) s
 
-  pub shown-ran : {l : Loaded} {n : ℕ} {t : Went} {m′ con′ : List ℕ} → l ≡ load file m → n ≡ loadNumber (l .answer) → n ≡ 0
+  pub shown-ran : {l : Loaded} {n : ℕ} {t : RunResult} {m′ con′ : List ℕ} → l ≡ load file m → n ≡ loadNumber (l .answer) → n ≡ 0
       → RunsAs (unpacked []) 100000 (l .machine) (l .mem) con t m′ con′ → Shows (stopLine (stopNumber (t .machine .cpu .stop)) (t .steps) (t .machine .cpu .regs)) line r → Shows (lineOf file m con) line r
   unfolding lineOf
   shown-ran {l} {n} {t} {m′} {con′} p q z w s =

@@ -11,7 +11,7 @@ use Rattle.executable.specs.Executable.{loadNumber}
 use Rattle.rules.specs.Record.{stopNumber}
 use Rattle.rules.specs.Load.{Loaded, load}
 use Rattle.rules.specs.Step.{State}
-use Rattle.rules.specs.Run.{RunResult, run, reported}
+use Rattle.rules.specs.Run.{Ran, run, reported}
 use Rattle.result_line.specs.Line.{stopLine, refusedLine}
 
 -- the state after a load: "the buffer empty"
@@ -19,11 +19,11 @@ abbrev pub startOf : Loaded → List ℕ → State (List Entry)
 startOf l con = record { cpu = l .machine .cpu; mem = l .mem; console = con; buffer = [] }
 
 -- its run: "no keys", "budget 100,000"
-abbrev pub runOf : Loaded → List ℕ → RunResult (List Entry)
+abbrev pub runOf : Loaded → List ℕ → Ran (List Entry)
 runOf l con = run buffered [] 100000 (startOf l con)
 
 -- the line of a run
-abbrev pub ranLine : RunResult (List Entry) → List ℕ
+abbrev pub ranLine : Ran (List Entry) → List ℕ
 ranLine r = stopLine (stopNumber (r .state .cpu .stop)) (reported r) (r .state .cpu .regs)
 
 -- the line of a load, and of its run if it is accepted

@@ -16,9 +16,9 @@ use Rattle.rules.specs.Record.{withCount, withRegs, withClock, withTimer
 -- the next key: the first that has not been taken
 unfoldable pub nextOf : List Key → ℕ → Next
 nextOf ks taken =
-    let k = getD ks taken (record { step = 0; byte = 0 }) in
+    let key = getD ks taken (record { step = 0; byte = 0 }) in
     if ltb taken (length ks)
-    then record { some = true; step = k .step; byte = k .byte }
+    then record { some = true; step = key .step; byte = key .byte }
     else record { some = false; step = 0; byte = 0 }
 
 -- "Step count rises by 1"
@@ -27,11 +27,11 @@ stepCounted c = withRegs (withCount (c .regs .count + 1) (c .regs)) c
 
 -- "If the next key's step number is at most the count": the count already raised
 abbrev pub keyComes : Next → Cpu → Bool
-keyComes k c = k .some && leb (k .step) (c .regs .count + 1)
+keyComes next c = next .some && leb (next .step) (c .regs .count + 1)
 
 -- "take that one key: kbchar = byte"
 abbrev pub keyed : Next → Bool → Clock → Clock
-keyed k comes t = if comes then withKbchar (k .byte) (withTaken (t .taken + 1) t) else t
+keyed next comes t = if comes then withKbchar (next .byte) (withTaken (t .taken + 1) t) else t
 
 -- "If timeout is not 0: where timer + 1 > timeout as whole numbers"
 abbrev pub timerFires : Cpu → Bool
@@ -46,11 +46,11 @@ timed t =
 
 -- the record after rules 1 to 3
 unfoldable pub ticked : Next → Cpu → Cpu
-ticked k c = withClock (timed (keyed k (keyComes k c) (c .clock))) (stepCounted c)
+ticked next c = withClock (timed (keyed next (keyComes next c) (c .clock))) (stepCounted c)
 
 -- "if iena, FKEYBD is due"; "if iena and nothing is due, FTIMER is due"
 abbrev pub dueBy : Bool → Bool → Option ℕ
 dueBy key timer = if key then some FKEYBD else (if timer then some FTIMER else none)
 
 unfoldable pub dueOf : Next → Cpu → Option ℕ
-dueOf k c = dueBy (c .system .iena && keyComes k c) (c .system .iena && timerFires c)
+dueOf next c = dueBy (c .system .iena && keyComes next c) (c .system .iena && timerFires c)

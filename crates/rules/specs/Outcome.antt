@@ -25,12 +25,12 @@ plain r = done (fine r [])
 
 -- "a fault ends the instruction"
 abbrev pub orRefused : (ℕ → Tree Out) → Reply → Tree Out
-orRefused k (got v) = k v
-orRefused k (denied f) = done (refused f)
+orRefused rest (got v) = rest v
+orRefused rest (denied f) = done (refused f)
 
 -- n bytes read at an address
 abbrev pub reading : ℕ → ℕ → (ℕ → Tree Out) → Tree Out
-reading n va k = ask (access Read n va) (orRefused k)
+reading n va rest = ask (access Read n va) (orRefused rest)
 
 -- n bytes of v stored at an address, with the registers after it
 abbrev pub writing : ℕ → ℕ → ℕ → Regs → Tree Out

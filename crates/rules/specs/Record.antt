@@ -56,7 +56,7 @@ abbrev pub withRegs : Regs → Cpu → Cpu
 withRegs r c = record { regs = r; clock = c .clock; vadr = c .vadr; space = c .space; system = c .system; stop = c .stop; written = c .written }
 
 abbrev pub withClock : Clock → Cpu → Cpu
-withClock k c = record { regs = c .regs; clock = k; vadr = c .vadr; space = c .space; system = c .system; stop = c .stop; written = c .written }
+withClock clock c = record { regs = c .regs; clock = clock; vadr = c .vadr; space = c .space; system = c .system; stop = c .stop; written = c .written }
 
 abbrev pub withVadr : ℕ → Cpu → Cpu
 withVadr x c = record { regs = c .regs; clock = c .clock; vadr = x; space = c .space; system = c .system; stop = c .stop; written = c .written }
@@ -76,16 +76,16 @@ withWritten x c = record { regs = c .regs; clock = c .clock; vadr = c .vadr; spa
 -- ---- within the groups
 
 abbrev pub withTimer : ℕ → Clock → Clock
-withTimer x k = record { timer = x; timeout = k .timeout; kbchar = k .kbchar; taken = k .taken }
+withTimer x clock = record { timer = x; timeout = clock .timeout; kbchar = clock .kbchar; taken = clock .taken }
 
 abbrev pub withTimeout : ℕ → Clock → Clock
-withTimeout x k = record { timer = k .timer; timeout = x; kbchar = k .kbchar; taken = k .taken }
+withTimeout x clock = record { timer = clock .timer; timeout = x; kbchar = clock .kbchar; taken = clock .taken }
 
 abbrev pub withKbchar : ℕ → Clock → Clock
-withKbchar x k = record { timer = k .timer; timeout = k .timeout; kbchar = x; taken = k .taken }
+withKbchar x clock = record { timer = clock .timer; timeout = clock .timeout; kbchar = x; taken = clock .taken }
 
 abbrev pub withTaken : ℕ → Clock → Clock
-withTaken x k = record { timer = k .timer; timeout = k .timeout; kbchar = k .kbchar; taken = x }
+withTaken x clock = record { timer = clock .timer; timeout = clock .timeout; kbchar = clock .kbchar; taken = x }
 
 abbrev pub withPdir : ℕ → Space → Space
 withPdir x s = record { pdir = x; paging = s .paging }

@@ -41,7 +41,7 @@ registersOk size c =
 -- no step number of the list, after one of n, falls
 unfoldable pub keysRise : ℕ → List Key → Bool
 keysRise n [] = true
-keysRise n (k ∷ ks) = leb n (k .step) && keysRise (k .step) ks
+keysRise n (key ∷ ks) = leb n (key .step) && keysRise (key .step) ks
 
 -- 4: "key step numbers ever fall, or keys taken exceed the list"
 unfoldable pub keysOk : List Key → ℕ → Bool

@@ -42,7 +42,7 @@ dueTree none size consoleSize c = if c .system .waiting then ended c else bind (
 -- a step, from the record before it
 unfoldable pub stepTree : Next → (size consoleSize : ℕ) → Cpu → Tree Final
 unfolding dueTree
-stepTree k size consoleSize c = dueTree (dueOf k c) size consoleSize (ticked k c)
+stepTree next size consoleSize c = dueTree (dueOf next c) size consoleSize (ticked next c)
 
 -- ---- the machines
 
@@ -107,9 +107,9 @@ module _ {B : Type 0} (tr : Translator B) where
 
   unfoldable pub stepBy : Next → State B → Stepped B
   unfolding stepTree steppedBy
-  stepBy k s =
+  stepBy next s =
       steppedBy (s .cpu) (s .console)
-      (interpret tr (s .cpu .space) (s .cpu .system .user) (stepTree k (length (s .mem)) (length (s .console)) (s .cpu)) (s .mem) (s .buffer) [])
+      (interpret tr (s .cpu .space) (s .cpu .system .user) (stepTree next (length (s .mem)) (length (s .console)) (s .cpu)) (s .mem) (s .buffer) [])
 
   -- one step, with a list of keys
   unfoldable pub step : List Key → State B → Stepped B

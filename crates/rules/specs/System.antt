@@ -31,8 +31,8 @@ returned c code pc =
     backTo (bit USER code) (withRegs (setPc pc (setSp (sum (c .regs .sp) 16) (c .regs))) (withSystem (withIena true (c .system)) c))
 
 abbrev pub orFault : Cpu → (ℕ → Tree Final) → Reply → Tree Final
-orFault c k (got v) = k v
-orFault c k (denied f) = faultTree c f (nextPc c)
+orFault c rest (got v) = rest v
+orFault c rest (denied f) = faultTree c f (nextPc c)
 
 unfoldable pub rtiTree : Cpu → Tree Final
 unfolding faultTree bit

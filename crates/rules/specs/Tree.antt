@@ -32,7 +32,7 @@ pub data Tree (A : Type 0) : Type 0 where
 
 -- one tree after another
 unfoldable pub bind : {A B : Type 0} → Tree A → (A → Tree B) → Tree B
-bind (ask q k) f = ask q (λ r. bind (k r) f)
+bind (ask q rest) f = ask q (λ r. bind (rest r) f)
 bind (done a) f = f a
 
 -- ---- granted writes, and stores through them
@@ -66,15 +66,15 @@ replied r gs = record { reply = r; grants = gs }
 
 -- what translation's answer tells the rule
 unfoldable pub replyTo : Access → ℕ → List ℕ → Answer → Replied
-replyTo k n m (At p) = replied (got (loadN n m p)) (if isWrite k then grant p n ∷ [] else [])
-replyTo k n m (Denied f) = replied (denied f) []
+replyTo kind n m (At p) = replied (got (loadN n m p)) (if isWrite kind then grant p n ∷ [] else [])
+replyTo kind n m (Denied f) = replied (denied f) []
 
 -- a slot is four bytes, written in kernel mode
 abbrev pub slot : ℕ → Request
 slot va = record { kind = Write; size = 4; addr = va; user = false }
 
 abbrev pub requested : Access → ℕ → ℕ → Bool → Request
-requested k n va user = record { kind = k; size = n; addr = va; user = user }
+requested kind n va user = record { kind = kind; size = n; addr = va; user = user }
 
 module _ {B : Type 0} (tr : Translator B) where
   unfoldable pub secondSlot : ℕ → List Event → Outcome B Answer → Answer → Outcome B Replied
@@ -91,9 +91,9 @@ module _ {B : Type 0} (tr : Translator B) where
   -- an ask answered, in a mode
   unfoldable pub answered : Space → Bool → Ask → List ℕ → B → Outcome B Replied
   unfolding replyTo firstSlot
-  answered s user (access k n va) m b =
-      let o = tr .translate s (requested k n va user) m b in
-      outcome (replyTo k n (o .mem) (o .answer)) (o .mem) (o .buffer) (o .events)
+  answered s user (access kind n va) m b =
+      let o = tr .translate s (requested kind n va user) m b in
+      outcome (replyTo kind n (o .mem) (o .answer)) (o .mem) (o .buffer) (o .events)
   answered s user (slots x y) m b =
       let o = tr .translate s (slot x) m b in
       firstSlot s y o (o .answer)
@@ -113,7 +113,7 @@ after es e = record { leaf = e .leaf; mem = e .mem; buffer = e .buffer; grants =
 
 module _ {B A : Type 0} (tr : Translator B) (s : Space) (user : Bool) where
   unfoldable pub interpret : Tree A → List ℕ → B → List Grant → Ended B A
-  interpret (ask q k) m b gs =
+  interpret (ask q rest) m b gs =
       let o = answered tr s user q m b in
-      after (o .events) (interpret (k (o .answer .reply)) (o .mem) (o .buffer) (o .answer .grants ++ gs))
+      after (o .events) (interpret (rest (o .answer .reply)) (o .mem) (o .buffer) (o .answer .grants ++ gs))
   interpret (done a) m b gs = record { leaf = a; mem = m; buffer = b; grants = gs; events = [] }

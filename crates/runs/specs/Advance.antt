@@ -23,11 +23,11 @@ use Rattle.machine.specs.declared.Advanced.{Advanced}
 unfoldable pub leftOf : Stop → ℕ → ℕ
 leftOf s n = if isRunning s then n else 0
 
--- the end of a run from the record c, with `left` steps and the next key k, is that of the run from g: at least one step was made
-pub record Goes (c : Cpu) (left : ℕ) (k : Next) (m con l : List ℕ) (g : Advanced) (m′ con′ l′ : List ℕ) : Type 0 where
+-- the end of a run from the record c, with `left` steps and the next key, is that of the run from g: at least one step was made
+pub record Goes (c : Cpu) (left : ℕ) (next : Next) (m con l : List ℕ) (g : Advanced) (m′ con′ l′ : List ℕ) : Type 0 where
   pub good : Good (length m′) (g .cpu .space .pdir) l′
   pub running : 0 < g .left → g .cpu .stop ≡ Running
   pub less : g .left < left
   pub later : c .regs .count < g .cpu .regs .count
   pub count : g .cpu .regs .count + g .left ≤ c .regs .count + left
-  pub same : (ks : List Key) → nextOf ks (c .clock .taken) ≡ k → endOf ks left (stateOf c m con l) ≡ endOf ks (g .left) (stateOf (g .cpu) m′ con′ l′)
+  pub same : (ks : List Key) → nextOf ks (c .clock .taken) ≡ next → endOf ks left (stateOf c m con l) ≡ endOf ks (g .left) (stateOf (g .cpu) m′ con′ l′)

@@ -42,11 +42,11 @@ pub record Able (g : UnderWay) (size : ℕ) : Type 0 where
   pub count : g .ran .machine .cpu .regs .count + g .left < 2 ^ 64
   pub steps : g .ran .steps ≤ g .ran .machine .cpu .regs .count
 
--- the run g went on to r, with the next key k: at least one step was made, and the outcome is kept
-pub record Proceeds (g : UnderWay) (k : Next) (mem con : List ℕ) (r : UnderWay) (mem′ con′ : List ℕ) : Type 0 where
+-- the run g went on to r, with the next key: at least one step was made, and the outcome is kept
+pub record Proceeds (g : UnderWay) (next : Next) (mem con : List ℕ) (r : UnderWay) (mem′ con′ : List ℕ) : Type 0 where
   pub able : 0 < r .left → Able r (length mem′)
   pub less : r .left < g .left
   pub answer : r .ran .answer ≡ g .ran .answer
   pub steps : r .ran .steps + g .ran .machine .cpu .regs .count ≡ g .ran .steps + r .ran .machine .cpu .regs .count
   pub more : 0 < r .ran .steps
-  pub same : (ks : List Key) → nextOf ks (g .taken) ≡ k → outcome ks g mem con ≡ outcome ks r mem′ con′
+  pub same : (ks : List Key) → nextOf ks (g .taken) ≡ next → outcome ks g mem con ≡ outcome ks r mem′ con′

@@ -16,7 +16,7 @@ use Rattle.walk.specs.declared.PageWalk.the-variants.{Mapped, Faulted}
 
 -- the value of a mark: A or D
 abbrev pub isMark : ℕ → Bool
-isMark k = eqb k 32 || eqb k 64
+isMark v = eqb v 32 || eqb v 64
 
 -- a finding without the addresses of the words read
 unfoldable pub foundBy : Found → PageWalk
@@ -43,5 +43,5 @@ FrameWalk dir table at m r =
     (es : List Event) (da : ℕ) → walkResult r m ≡ walkedBy (walkFrame (ltb (cut 4096 table) (length m)) es m dir table da at)
 
 abbrev pub TableWalk : (dir at : ℕ) → Access → Bool → List ℕ → PageWalk → List ℕ → Type 0
-TableWalk dir at k user m r m′ =
-    (es : List Event) (da : ℕ) → walkResult r m′ ≡ walkedBy (walkTable (allows dir (loadN 4 m at) k user) es m dir (loadN 4 m at) da at k)
+TableWalk dir at kind user m r m′ =
+    (es : List Event) (da : ℕ) → walkResult r m′ ≡ walkedBy (walkTable (allows dir (loadN 4 m at) kind user) es m dir (loadN 4 m at) da at kind)
