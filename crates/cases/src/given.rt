@@ -1,4 +1,4 @@
-// reference/FORMAT.md, "A case of runs": the record and the keys that a case gives.
+// reference/FORMAT.md, "A case of runs": the record that a case gives.
 ghost use Prim.Native.Nat.{_≤_};
 use case_format::given::NUMBERS;
 use case_format::given::SLOTS;
@@ -7,7 +7,6 @@ use case_format::given::long;
 use case_format::given::place;
 use case_format::given::word;
 use paging::Entry;
-use rules::Key;
 use rules::Machine;
 
 // The record's numbers, from 60 on.
@@ -57,32 +56,4 @@ pub fn machine_of(s: &[u8]) -> Machine {
     let entries = entries_at(s);
     let held = place(s, 20);
     Machine { cpu, entries, held }
-}
-
-// How many packed keys there are, at most 64.
-pub fn key_count(keys: &[u8]) -> usize
-    ensures { λ r. ⌜ r ≤ 64 ⌝ }
-{
-    least(keys.len() / 9, 64)
-}
-
-fn key_at(keys: &[u8], at: usize) -> Key
-    requires { ⌜ at ≤ 65536 ⌝ }
-{
-    Key {
-        step: long(keys, at),
-        byte: case_format::digest::byte(keys, at + 8),
-    }
-}
-
-// Packed keys as structs.
-pub fn keys_of(keys: &[u8]) -> [Key; 64] {
-    let mut list = [Key { step: 0, byte: 0 }; 64];
-    let n = key_count(keys);
-    let mut i = 0;
-    while i < n {
-        list[i] = key_at(keys, 9 * i);
-        i += 1;
-    }
-    list
 }

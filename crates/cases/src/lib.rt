@@ -2,6 +2,5 @@
 pub mod given;
 pub mod lists;
 pub mod load;
-pub mod made;
 pub mod printed;
 pub mod stream;

@@ -1,7 +1,6 @@
 // reference/FORMAT.md, "A case of runs": a list of runs, each from where the one before it ended, by each of the entries that the case names.
 ghost use Prim.Native.Nat.{_<_};
 use crate::given::machine_of;
-use crate::made::make;
 use crate::printed::show_line;
 use case_format::given::SLOTS;
 use case_format::given::chunks;
@@ -10,6 +9,7 @@ use case_format::given::fill;
 use case_format::given::long;
 use case_format::given::place;
 use case_format::given::word;
+use entry_calls::made::make;
 use rules::Machine;
 
 // A run and its line.

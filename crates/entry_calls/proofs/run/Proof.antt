@@ -1,4 +1,4 @@
--- `lent_keys::run` is safe and ends: a walk of its MIR, by hand. The keys are copied into a local array, whose first n are lent for the call; memory and console go
+-- `entry_calls::run` is safe and ends: a walk of its MIR, by hand. The keys are copied into a local array, whose first n are lent for the call; memory and console go
 -- to `run` at their own lifetimes, shares and names. Assumes nothing.
 use mathlib.Core.Path.{_≡_, refl, ap, subst}
 use Prim.Native.Nat.{ℕ, _<_, _≤_, _^_}
@@ -42,9 +42,9 @@ use denote.Exit.{yes}
 use Rattle.rules.specs.declared.Key.{Key}
 use Rattle.rules.specs.declared.Machine.{Machine}
 use Rattle.runs.specs.declared.RunResult.{RunResult}
-use Rattle.lent_keys.proofs.Ended.{ensures-nothing}
-use Rattle.lent_keys.proofs.LentRecord.{mach}
-use Rattle.lent_keys.proofs.LentKeys.{keysTy, machKeys, first, Kept, lends-keys, keys-back}
+use Rattle.entry_calls.proofs.Ended.{ensures-nothing}
+use Rattle.entry_calls.proofs.LentRecord.{mach}
+use Rattle.entry_calls.proofs.LentKeys.{keysTy, machKeys, first, Kept, lends-keys, keys-back}
 use Rattle.rules.proofs.Key as K
 use Rattle.rules.proofs.Key.Laws as K′
 use Rattle.rules.proofs.Machine as T
@@ -55,10 +55,10 @@ use Rattle.v9.proofs.run as callee
 use Rattle.v9.proofs.run.Symbol as run-def
 use Rattle.v9.proofs.run.Symbol.{name as #v9·run}
 use Rattle.v9.proofs.run.Met as run-thm
-use Rattle.lent_keys.proofs.run.Key.{name as #by-value·run}
-use Rattle.lent_keys.proofs.run as f
-use Rattle.lent_keys.proofs.run.Statement as stated
-use Rattle.lent_keys.proofs.run.Code as code
+use Rattle.entry_calls.proofs.run.Key.{name as #by-value·run}
+use Rattle.entry_calls.proofs.run as f
+use Rattle.entry_calls.proofs.run.Statement as stated
+use Rattle.entry_calls.proofs.run.Code as code
 
 abbrev stayed : Stays (f.ended .signature .params) (f.ended .kept)
 stayed = (stay-none (λ _. T.the-row) yes, (gave-slice (0 ∷ []) tt (plain (λ _. u8)), (gave-slice (1 ∷ []) tt (plain (λ _. u8)), (stay-none (λ _. Array K.the-row 64) yes, (stay-none (λ _. u64) yes, (stay-none (λ _. u64) yes, tt))))))

@@ -6,6 +6,9 @@ use rules::Machine;
 use runs::RunResult;
 use v9::Numbered;
 
+pub mod keys;
+pub mod made;
+
 // A run with the first n of the keys.
 pub fn run(
     m: Machine,

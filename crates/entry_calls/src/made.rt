@@ -1,7 +1,7 @@
 // reference/FORMAT.md, "A case of runs": a run, made by one of the library's entries.
 ghost use Prim.Native.Nat.{_≤_, _<_};
-use crate::given::key_count;
-use crate::given::keys_of;
+use crate::keys::key_count;
+use crate::keys::keys_of;
 use rules::Key;
 use rules::Machine;
 use runs::RunResult;
@@ -26,7 +26,7 @@ fn made_of(r: RunResult) -> Made {
 // Entry 1: `run`, with the keys as structs.
 fn by_run(m: Machine, keys: &[u8], budget: u64, mem: &mut [u8], con: &mut [u8]) -> Made {
     let n = key_count(keys);
-    made_of(lent_keys::run(m, mem, con, keys_of(keys), n, budget))
+    made_of(crate::run(m, mem, con, keys_of(keys), n, budget))
 }
 
 // Entry 2: `run_packed`.
@@ -39,7 +39,7 @@ fn step(m: Machine, keys: [Key; 64], n: usize, mem: &mut [u8], con: &mut [u8]) -
     requires { ⌜ n ≤ 64 ⌝ }
 {
     let from = m.cpu.regs.count;
-    let s = lent_keys::single_step(m, mem, con, keys, n);
+    let s = crate::single_step(m, mem, con, keys, n);
     let machine = s.machine;
     Made {
         machine,

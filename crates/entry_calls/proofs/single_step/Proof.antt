@@ -1,4 +1,4 @@
--- `lent_keys::single_step` is safe and ends: a walk of its MIR, by hand. Keys and record are copied into locals, which are lent for the call; memory and console
+-- `entry_calls::single_step` is safe and ends: a walk of its MIR, by hand. Keys and record are copied into locals, which are lent for the call; memory and console
 -- go to `single_step` at their own lifetimes, shares and names. Assumes nothing.
 use mathlib.Core.Path.{_≡_, refl, ap, subst}
 use Prim.Native.Nat.{ℕ, _<_, _≤_, _^_}
@@ -44,9 +44,9 @@ use denote.Exit.{yes}
 use Rattle.rules.specs.declared.Key.{Key}
 use Rattle.rules.specs.declared.Machine.{Machine}
 use Rattle.v9.specs.declared.Numbered.{Numbered}
-use Rattle.lent_keys.proofs.LentRecord.{mach, lends-record, record-back}
-use Rattle.lent_keys.proofs.Ended.{ensures-nothing}
-use Rattle.lent_keys.proofs.LentKeys.{keysTy, machKeys, first, Kept, lends-keys, keys-back}
+use Rattle.entry_calls.proofs.LentRecord.{mach, lends-record, record-back}
+use Rattle.entry_calls.proofs.Ended.{ensures-nothing}
+use Rattle.entry_calls.proofs.LentKeys.{keysTy, machKeys, first, Kept, lends-keys, keys-back}
 use Rattle.rules.proofs.Key as K
 use Rattle.rules.proofs.Key.Laws as K′
 use Rattle.rules.proofs.Machine as T
@@ -57,10 +57,10 @@ use Rattle.v9.proofs.single_step as callee
 use Rattle.v9.proofs.single_step.Symbol as step-def
 use Rattle.v9.proofs.single_step.Symbol.{name as #v9·single-step}
 use Rattle.v9.proofs.single_step.Met as step-thm
-use Rattle.lent_keys.proofs.single_step.Key.{name as #by-value·single-step}
-use Rattle.lent_keys.proofs.single_step as f
-use Rattle.lent_keys.proofs.single_step.Statement as stated
-use Rattle.lent_keys.proofs.single_step.Code as code
+use Rattle.entry_calls.proofs.single_step.Key.{name as #by-value·single-step}
+use Rattle.entry_calls.proofs.single_step as f
+use Rattle.entry_calls.proofs.single_step.Statement as stated
+use Rattle.entry_calls.proofs.single_step.Code as code
 
 abbrev stayed : Stays (f.ended .signature .params) (f.ended .kept)
 stayed = (stay-none (λ _. T.the-row) yes, (gave-slice (0 ∷ []) tt (plain (λ _. u8)), (gave-slice (1 ∷ []) tt (plain (λ _. u8)), (stay-none (λ _. Array K.the-row 64) yes, (stay-none (λ _. u64) yes, tt)))))

@@ -1,10 +1,10 @@
--- `cases::made::by_steps` is safe and ends. Assumes nothing.
+-- `entry_calls::made::by_steps` is safe and ends. Assumes nothing.
 use Prim.Native.Nat.{_≤_}
 use lib.ListN.{length}
 use mathlib.Core.Path.{_≡_}
 use borrow.Author.Needs.{needs}
-use Rattle.cases.proofs.made.by_steps.Statement.{statement}
-use Rattle.cases.proofs.made.by_steps.Tie as tie
+use Rattle.entry_calls.proofs.made.by_steps.Statement.{statement}
+use Rattle.entry_calls.proofs.made.by_steps.Tie as tie
 
 abbrev Inv-loop : tie.InvT-loop
 Inv-loop packed budget mem₀ con₀ keys n machine₀ left₀ number₀ steps₀ mem con machine left number steps = (length mem ≡ length mem₀) × (length con ≡ length con₀) × (n ≤ 64)
