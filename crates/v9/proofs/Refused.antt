@@ -60,12 +60,16 @@ module _ {ks : List Key} {budget : ℕ} {m : Machine} {mem con : List ℕ} {g : 
 module _ {m : Machine} {mem con : List ℕ} {n : ℕ} {x : Machine} {mem′ con′ : List ℕ} where
   -- of a run of some budget, what is told to the caller of a single step
   told-unchanged : (ks : List Key) (budget : ℕ) → n ≡ runNumber (run buffered ks budget (viewOf m mem con) .answer)
-      → viewOf x mem′ con′ ≡ run buffered ks budget (viewOf m mem con) .state → (reported (run buffered ks budget (viewOf m mem con)) ≡ 0 → x ≡ m)
-      → (n ≡ 0 → ⊥) → Unchanged m mem con x mem′ con′
-  told-unchanged ks budget number state same h =
+      → mem′ ≡ run buffered ks budget (viewOf m mem con) .state .mem → con′ ≡ run buffered ks budget (viewOf m mem con) .state .console
+      → (reported (run buffered ks budget (viewOf m mem con)) ≡ 0 → x ≡ m) → (n ≡ 0 → ⊥) → Unchanged m mem con x mem′ con′
+  told-unchanged ks budget number memory console same h =
       let o = refused-run buffered ks budget (viewOf m mem con) (refusing (run buffered ks budget (viewOf m mem con) .answer) (λ z. h (number ∙ z))) in
-      let e = state ∙ o .same in
-      record { machine = same (o .none); memory = ap (λ (s : State (List Entry)). s .mem) e; console = ap (λ (s : State (List Entry)). s .console) e }
+      record {
+        machine = same (o .none);
+        memory = memory ∙ ap (λ (s : State (List Entry)). s .mem) (o .same);
+        console = console ∙ ap (λ (s : State (List Entry)). s .console) (o .same);
+      }
 
   pub refused-step-unchanged : {ks : List Key} → StepsAs ks m mem con n x mem′ con′ → (n ≡ 0 → ⊥) → Unchanged m mem con x mem′ con′
-  refused-step-unchanged r = told-unchanged _ _ (r .number) (r .state) (r .same)
+  refused-step-unchanged r =
+      told-unchanged _ _ (r .number) (ap (λ (s : State (List Entry)). s .mem) (r .state)) (ap (λ (s : State (List Entry)). s .console) (r .state)) (r .same)
