@@ -6,8 +6,8 @@ use rules::Machine;
 use runs::RunResult;
 use v9::Numbered;
 
-pub mod keys;
 pub mod made;
+pub mod packed;
 
 // A run with the first n of the keys.
 pub fn run(

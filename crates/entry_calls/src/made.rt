@@ -1,7 +1,7 @@
 // reference/FORMAT.md, "A case of runs": a run, made by one of the library's entries.
 ghost use Prim.Native.Nat.{_≤_, _<_};
-use crate::keys::key_count;
-use crate::keys::keys_of;
+use crate::packed::key_count;
+use crate::packed::keys_of;
 use rules::Key;
 use rules::Machine;
 use runs::RunResult;

@@ -1,10 +1,10 @@
--- `entry_calls::keys::keys_of` is safe and ends. Assumes nothing.
+-- `entry_calls::packed::keys_of` is safe and ends. Assumes nothing.
 use Prim.Native.Nat.{_≤_, _-_}
 use lib.ListN.{length}
 use mathlib.Core.Path.{_≡_}
 use borrow.Author.Needs.{needs}
-use Rattle.entry_calls.proofs.keys.keys_of.Statement.{statement}
-use Rattle.entry_calls.proofs.keys.keys_of.Tie as tie
+use Rattle.entry_calls.proofs.packed.keys_of.Statement.{statement}
+use Rattle.entry_calls.proofs.packed.keys_of.Tie as tie
 
 abbrev Inv-loop : tie.InvT-loop
 Inv-loop keys list₀ n i₀ list i = (n ≤ 64) × (length list ≡ 64)
