@@ -9,7 +9,7 @@ use Rattle.rules.specs.declared.RunAnswer.{RunAnswer}
 use Rattle.rules.specs.Run.{registersOk, budgetOk, firstRefusal}
 use Rattle.refusals.specs.View.{entriesOf}
 
--- for memory of `size` bytes, a console of `room`, and a list of so many keys, whose step numbers never fall where `rising`
+-- for memory of `size` bytes, a console of `consoleSize`, and a list of so many keys, whose step numbers never fall where `rising`
 unfoldable pub refusalOf : Machine → (size consoleSize : ℕ) (rising : Bool) (keys budget : ℕ) → RunAnswer
 refusalOf m size consoleSize rising keys budget =
     firstRefusal (sizeOk size) (registersOk size (m .cpu)) (bufferOk size (entriesOf m)) (rising && leb (m .cpu .clock .taken) keys)

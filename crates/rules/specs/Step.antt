@@ -19,7 +19,7 @@ use Rattle.rules.specs.Trap.{Effect, none as nothing, setSpace, deliver,
 use Rattle.rules.specs.System.{systemTree}
 use Rattle.rules.specs.Clock.{nextOf, ticked, dueOf}
 
--- the rest of a step after its instruction: c is the record before the fetch, its count raised, size and room the lengths of memory and console
+-- the rest of a step after its instruction: c is the record before the fetch, its count raised, size and consoleSize the lengths of memory and console
 unfoldable pub settleTree : (size consoleSize : ℕ) → Cpu → Out → Tree Final
 unfolding faultTree trapTree systemTree
 settleTree size consoleSize c (fine r vs) = final (withRegs r c) vs nothing

@@ -41,7 +41,7 @@ rtiTree c =
     ask (access Read 4 (sum (c .regs .sp) 8)) (orFault c (λ pc.
     ended (returned c code pc)))))
 
--- "BOUT: b's low byte appended, a = 1; console full, a = 0xFFFFFFFF"; room is the console's length, c has pc moved on
+-- "BOUT: b's low byte appended, a = 1; console full, a = 0xFFFFFFFF"; consoleSize is the console's length, c has pc moved on
 unfoldable pub boutTree : ℕ → Cpu → Tree Final
 boutTree consoleSize c =
     if ltb (c .written) consoleSize
