@@ -6,12 +6,6 @@ use borrow.Author.Needs.{needs}
 use Rattle.block.proofs.block.Statement.{statement}
 use Rattle.block.proofs.block.Tie as tie
 
-finish-requires : tie.Need-finish-requires
-finish-requires c κs = search needs
-
-fine-requires : tie.Need-fine-requires
-fine-requires c κs = search needs
-
 returns : tie.Need-returns
 unfolding blockTree
 returns c = rw (eq-eqb _ _ (c .before .before .if1 .taken)) (executes-fine (c .before .before .before .before .before .before .pre) (rw (c .fine .ensures, c .before .finish .ensures)))
@@ -19,91 +13,62 @@ returns c = rw (eq-eqb _ _ (c .before .before .if1 .taken)) (executes-fine (c .b
 enum-told : tie.Need-enum-told
 enum-told c = search needs
 
-copy-byte-requires : tie.Need-copy-byte-requires
-copy-byte-requires c κs = search needs
-
-enum-told-2 : tie.Need-enum-told-2
-enum-told-2 c = search needs
-
-compare-byte-requires : tie.Need-compare-byte-requires
-compare-byte-requires c κs = search needs
-
-enum-told-3 : tie.Need-enum-told-3
-enum-told-3 c = search needs
-
-search-byte-requires : tie.Need-search-byte-requires
-search-byte-requires c κs = search needs
-
-enum-told-4 : tie.Need-enum-told-4
-enum-told-4 c = search needs
-
-set-byte-requires : tie.Need-set-byte-requires
-set-byte-requires c κs = search needs
-
-same-length : tie.Need-same-length
-same-length c = search needs
-
-same-length-2 : tie.Need-same-length-2
-same-length-2 c = search needs
-
 returns-2 : tie.Need-returns-2
 unfolding blockTree
-returns-2 c = rw (c .before .before .before .before .before .before .before .before .enum-told .given .1, ne-eqb _ _ (c .before .before .before .before .before .before .before .before .before .before .if1 .left)) (c .before .before .before .before .copy-byte .ensures)
-
-same-length-3 : tie.Need-same-length-3
-same-length-3 c = search needs
-
-same-length-4 : tie.Need-same-length-4
-same-length-4 c = search needs
+returns-2 c =
+    let copy-byte = c .before .before .before .before .copy-byte in
+    let enum-told = c .before .before .before .before .before .before .before .before .enum-told in
+    let if1 = c .before .before .before .before .before .before .before .before .before .before .if1 in
+    rw (enum-told .given .1, ne-eqb _ _ (if1 .left)) (copy-byte .ensures)
 
 returns-3 : tie.Need-returns-3
 unfolding blockTree
-returns-3 c = rw (c .before .before .before .before .before .before .before .before .enum-told2 .given .1, ne-eqb _ _ (c .before .before .before .before .before .before .before .before .before .before .if1 .left)) (c .before .before .before .before .compare-byte .ensures)
-
-same-length-5 : tie.Need-same-length-5
-same-length-5 c = search needs
-
-same-length-6 : tie.Need-same-length-6
-same-length-6 c = search needs
+returns-3 c =
+    let compare-byte = c .before .before .before .before .compare-byte in
+    let enum-told2 = c .before .before .before .before .before .before .before .before .enum-told2 in
+    let if1 = c .before .before .before .before .before .before .before .before .before .before .if1 in
+    rw (enum-told2 .given .1, ne-eqb _ _ (if1 .left)) (compare-byte .ensures)
 
 returns-4 : tie.Need-returns-4
 unfolding blockTree
-returns-4 c = rw (c .before .before .before .before .before .before .before .before .enum-told3 .given .1, ne-eqb _ _ (c .before .before .before .before .before .before .before .before .before .before .if1 .left)) (c .before .before .before .before .search-byte .ensures)
-
-same-length-7 : tie.Need-same-length-7
-same-length-7 c = search needs
-
-same-length-8 : tie.Need-same-length-8
-same-length-8 c = search needs
+returns-4 c =
+    let search-byte = c .before .before .before .before .search-byte in
+    let enum-told3 = c .before .before .before .before .before .before .before .before .enum-told3 in
+    let if1 = c .before .before .before .before .before .before .before .before .before .before .if1 in
+    rw (enum-told3 .given .1, ne-eqb _ _ (if1 .left)) (search-byte .ensures)
 
 returns-5 : tie.Need-returns-5
 unfolding blockTree
-returns-5 c = rw (c .before .before .before .before .before .before .before .before .enum-told4 .given .1, ne-eqb _ _ (c .before .before .before .before .before .before .before .before .before .before .if1 .left)) (c .before .before .before .before .set-byte .ensures)
+returns-5 c =
+    let set-byte = c .before .before .before .before .set-byte in
+    let enum-told4 = c .before .before .before .before .before .before .before .before .enum-told4 in
+    let if1 = c .before .before .before .before .before .before .before .before .before .before .if1 in
+    rw (enum-told4 .given .1, ne-eqb _ _ (if1 .left)) (set-byte .ensures)
 
 pub block-spec : {M : Type 1} → statement M
 block-spec =
     tie.close
     (tie.spec
-    finish-requires
-    fine-requires
+    (λ c κs. search needs)
+    (λ c κs. search needs)
     returns
     enum-told
-    copy-byte-requires
-    enum-told-2
-    compare-byte-requires
-    enum-told-3
-    search-byte-requires
-    enum-told-4
-    set-byte-requires
-    same-length
-    same-length-2
+    (λ c κs. search needs)
+    (λ c. search needs)
+    (λ c κs. search needs)
+    (λ c. search needs)
+    (λ c κs. search needs)
+    (λ c. search needs)
+    (λ c κs. search needs)
+    (λ c. search needs)
+    (λ c. search needs)
     returns-2
-    same-length-3
-    same-length-4
+    (λ c. search needs)
+    (λ c. search needs)
     returns-3
-    same-length-5
-    same-length-6
+    (λ c. search needs)
+    (λ c. search needs)
     returns-4
-    same-length-7
-    same-length-8
+    (λ c. search needs)
+    (λ c. search needs)
     returns-5)

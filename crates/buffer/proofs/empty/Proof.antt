@@ -5,14 +5,8 @@ use Rattle.buffer.proofs.Slots.{held-none, buffer-counted}
 use Rattle.buffer.proofs.empty.Statement.{statement}
 use Rattle.buffer.proofs.empty.Tie as tie
 
-slice-write-tlb : tie.Need-slice-write-tlb
-slice-write-tlb c = search needs
-
-same-length : tie.Need-same-length
-same-length c = search needs
-
 returns : tie.Need-returns
 returns c = (held-none _ (c .pre), buffer-counted _ (c .pre) 0 (omega arith))
 
 pub empty-spec : {M : Type 1} → statement M
-empty-spec = tie.close (tie.spec slice-write-tlb same-length returns)
+empty-spec = tie.close (tie.spec (λ c. search needs) (λ c. search needs) returns)

@@ -5,20 +5,8 @@ use Rattle.buffer.proofs.Packing.{bool-le, pack-is}
 use Rattle.buffer.proofs.pack.Statement.{statement}
 use Rattle.buffer.proofs.pack.Tie as tie
 
-mul-result : tie.Need-mul-result
-mul-result c = search needs
-
-mul-result-2 : tie.Need-mul-result-2
-mul-result-2 c = search needs
-
-cast-result : tie.Need-cast-result
-cast-result c = search needs
-
 mul-result-3 : tie.Need-mul-result-3
 mul-result-3 c = omega (arith, bool-le (c .args .user), bool-le (c .args .write))
-
-cast-result-2 : tie.Need-cast-result-2
-cast-result-2 c = search needs
 
 add-result : tie.Need-add-result
 add-result c = omega (arith, bool-le (c .args .user), bool-le (c .args .write))
@@ -36,11 +24,11 @@ pub pack-spec : {M : Type 1} → statement M
 pack-spec =
     tie.close
     (tie.spec
-    mul-result
-    mul-result-2
-    cast-result
+    (λ c. search needs)
+    (λ c. search needs)
+    (λ c. search needs)
     mul-result-3
-    cast-result-2
+    (λ c. search needs)
     add-result
     add-result-2
     add-result-3

@@ -5,12 +5,9 @@ use Rattle.paging.specs.Walk.{bit}
 use Rattle.buffer.proofs.serves.Statement.{statement}
 use Rattle.buffer.proofs.serves.Tie as tie
 
-writes-requires : tie.Need-writes-requires
-writes-requires c κs = search needs
-
 returns : tie.Need-returns
 unfolding serves bit
 returns c = cc
 
 pub serves-spec : {M : Type 1} → statement M
-serves-spec = tie.close (tie.spec writes-requires returns)
+serves-spec = tie.close (tie.spec (λ c κs. search needs) returns)

@@ -5,23 +5,8 @@ use Rattle.buffer.proofs.Hits.{slot-past, slot-serves, slot-refuses}
 use Rattle.buffer.proofs.slot.Statement.{statement}
 use Rattle.buffer.proofs.slot.Tie as tie
 
-count-requires : tie.Need-count-requires
-count-requires c κs = search needs
-
 returns : tie.Need-returns
 returns c = slot-past (c .before .before .before .args .tlb .now) (c .before .before .before .args .i) _ _ _ (omega arith)
-
-mul-e : tie.Need-mul-e
-mul-e c = search needs
-
-shared-slice-read-e : tie.Need-shared-slice-read-e
-shared-slice-read-e c = search needs
-
-serves-requires : tie.Need-serves-requires
-serves-requires c κs = search needs
-
-cast-t16 : tie.Need-cast-t16
-cast-t16 c = search needs
 
 returns-2 : tie.Need-returns-2
 returns-2 c =
@@ -37,11 +22,11 @@ pub slot-spec : {M : Type 1} → statement M
 slot-spec =
     tie.close
     (tie.spec
-    count-requires
+    (λ c κs. search needs)
     returns
-    mul-e
-    shared-slice-read-e
-    serves-requires
-    cast-t16
+    (λ c. search needs)
+    (λ c. search needs)
+    (λ c κs. search needs)
+    (λ c. search needs)
     returns-2
     returns-3)

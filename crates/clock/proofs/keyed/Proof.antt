@@ -4,9 +4,6 @@ use borrow.Author.Needs.{needs}
 use Rattle.clock.proofs.keyed.Statement.{statement}
 use Rattle.clock.proofs.keyed.Tie as tie
 
-cast-n : tie.Need-cast-n
-cast-n c = search needs
-
 add-n : tie.Need-add-n
 add-n c = omega (arith, c .before .before .before .pre .fits (c .before .before .if1 .taken))
 
@@ -17,4 +14,4 @@ returns-2 : tie.Need-returns-2
 returns-2 c = rw (c .if1 .left)
 
 pub keyed-spec : {M : Type 1} → statement M
-keyed-spec = tie.close (tie.spec cast-n add-n returns returns-2)
+keyed-spec = tie.close (tie.spec (λ c. search needs) add-n returns returns-2)

@@ -5,21 +5,19 @@ use Rattle.clock.proofs.Before.{key-fits}
 use Rattle.clock.proofs.tick.Statement.{statement}
 use Rattle.clock.proofs.tick.Tie as tie
 
-add-count : tie.Need-add-count
-add-count c = search needs
-
-key-comes-requires : tie.Need-key-comes-requires
-key-comes-requires c κs = search needs
-
 keyed-requires : tie.Need-keyed-requires
 keyed-requires c κs = key-fits (c .before .before .args .k) (c .before .before .args .c) (c .key-comes .ensures) (c .before .before .pre .1)
-
-timed-requires : tie.Need-timed-requires
-timed-requires c κs = search needs
 
 returns : tie.Need-returns
 unfolding ticked
 returns c = rw (c .before .timed .ensures, c .before .before .keyed .ensures, c .before .before .before .key-comes .ensures)
 
 pub tick-spec : {M : Type 1} → statement M
-tick-spec = tie.close (tie.spec add-count key-comes-requires keyed-requires timed-requires returns)
+tick-spec =
+    tie.close
+    (tie.spec
+    (λ c. search needs)
+    (λ c κs. search needs)
+    keyed-requires
+    (λ c κs. search needs)
+    returns)

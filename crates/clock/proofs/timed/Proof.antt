@@ -7,23 +7,20 @@ use Rattle.clock.proofs.timed.Tie as tie
 returns : tie.Need-returns
 returns c = rw (eq-eqb _ _ (c .if1 .taken))
 
-cast-if2 : tie.Need-cast-if2
-cast-if2 c = search needs
-
-cast-if2-2 : tie.Need-cast-if2-2
-cast-if2-2 c = search needs
-
-add-if2 : tie.Need-add-if2
-add-if2 c = search needs
-
 returns-2 : tie.Need-returns-2
 returns-2 c = rw (ne-eqb _ _ (c .before .before .before .if1 .left), lt-ltb _ _ (c .if2 .taken))
-
-add-n : tie.Need-add-n
-add-n c = search needs
 
 returns-3 : tie.Need-returns-3
 returns-3 c = rw (ne-eqb _ _ (c .before .before .before .before .if1 .left), le-ltb _ _ (c .before .if2 .left))
 
 pub timed-spec : {M : Type 1} → statement M
-timed-spec = tie.close (tie.spec returns cast-if2 cast-if2-2 add-if2 returns-2 add-n returns-3)
+timed-spec =
+    tie.close
+    (tie.spec
+    returns
+    (λ c. search needs)
+    (λ c. search needs)
+    (λ c. search needs)
+    returns-2
+    (λ c. search needs)
+    returns-3)

@@ -61,7 +61,19 @@ use Rattle.entry_calls.proofs.run.Statement as stated
 use Rattle.entry_calls.proofs.run.Code as code
 
 abbrev stayed : Stays (f.ended .signature .params) (f.ended .kept)
-stayed = (stay-none (λ _. T.the-row) yes, (gave-slice (0 ∷ []) tt (plain (λ _. u8)), (gave-slice (1 ∷ []) tt (plain (λ _. u8)), (stay-none (λ _. Array K.the-row 64) yes, (stay-none (λ _. u64) yes, (stay-none (λ _. u64) yes, tt))))))
+stayed = (
+  stay-none (λ _. T.the-row) yes,
+  (
+    gave-slice (0 ∷ []) tt (plain (λ _. u8)),
+    (
+      gave-slice (1 ∷ []) tt (plain (λ _. u8)),
+      (
+        stay-none (λ _. Array K.the-row 64) yes,
+        (stay-none (λ _. u64) yes, (stay-none (λ _. u64) yes, tt)),
+      ),
+    ),
+  ),
+)
 
 abbrev machR : RunResult → Val
 machR r = LL.tuple-val R.the-type R′.the-laws (R.the-type .to r)
@@ -70,7 +82,9 @@ machR r = LL.tuple-val R.the-type R′.the-laws (R.the-type .to r)
 abbrev Run : {M : Type 1} (𝓤 : URA M) (H : Heap 𝓤) (A : Atoms 𝓤) (at-mem : Memory → SProp 𝓤) (run : Routine → Fun 𝓤) → Contract 𝓤
 Run 𝓤 H A at-mem run = tripleOf 𝓤 H A callee.signature (callee.spec 𝓤 H A at-mem run)
 
-module _ {M : Type 1} (𝓤 : URA M) (H : Heap 𝓤) (A : Atoms 𝓤) (W : Given 𝓤 H A) (at-mem : Memory → SProp 𝓤) (run : Routine → Fun 𝓤) (κm κc : Lft) (qm qc : Share) (h : Machine) (xm xc : RefT (List ℕ)) (ks : List Key) (n budget : ℕ) (h-is : Is T.the-row h (mach h ∷ [])) (ks-is : Is (Array K.the-row 64) ks (machKeys ks ∷ [])) (n-fits : n < 2 ^ 64) (budget-fits : budget < 2 ^ 64) (few : n ≤ 64) where
+module _ {M : Type 1} (𝓤 : URA M) (H : Heap 𝓤) (A : Atoms 𝓤) (W : Given 𝓤 H A) (at-mem : Memory → SProp 𝓤) (run : Routine → Fun 𝓤) (κm κc : Lft)
+    (qm qc : Share) (h : Machine) (xm xc : RefT (List ℕ)) (ks : List Key) (n budget : ℕ) (h-is : Is T.the-row h (mach h ∷ []))
+    (ks-is : Is (Array K.the-row 64) ks (machKeys ks ∷ [])) (n-fits : n < 2 ^ 64) (budget-fits : budget < 2 ^ 64) (few : n ≤ 64) where
   abbrev len : length ks ≡ 64
   len = ks-is .1 .0 .1
 
@@ -96,7 +110,8 @@ module _ {M : Type 1} (𝓤 : URA M) (H : Heap 𝓤) (A : Atoms 𝓤) (W : Given
       → ent 𝓤 (⋆ 𝓤 H A (‵ (flft κm qm) ∷ ‵ (flft κc qc) ∷ ‵ (finally u8 (xm .name) zm) ∷ ‵ (finally u8 (xc .name) zc) ∷ [])) (Post (machR r))
   exits r zm zc lm lc is =
       qed W (‵ (flft κm qm) ∷ ‵ (flft κc qc) ∷ ‵ (finally u8 (xm .name) zm) ∷ ‵ (finally u8 (xc .name) zc) ∷ []) ∵
-      suffices ! _ (ends-at 𝓤 H A f.ended stayed (f.clauses 𝓤 H A at-mem run) W (((κm, (κc, tt)), (qm, (qc, tt)), tt, a, at), tt) (machR r) r (tt, (zm, (zc, (tt, (tt, (tt, tt)))))) (tt, (lm, (lc, (tt, (tt, (tt, tt))))))) $
+      suffices ! _ (ends-at 𝓤 H A f.ended stayed (f.clauses 𝓤 H A at-mem run) W (((κm, (κc, tt)), (qm, (qc, tt)), tt, a, at), tt) (machR r) r
+      (tt, (zm, (zc, (tt, (tt, (tt, tt)))))) (tt, (lm, (lc, (tt, (tt, (tt, tt))))))) $
       suffices ! _ (ensures-nothing 𝓤 _) $
       nothing ! $ move ! (2 ∷ 0 ∷ []) $ join ! $ move ! (1 ∷ 0 ∷ []) $ join ! $ frame ! $
       -- [memory's last list; the console's]
@@ -120,7 +135,8 @@ module _ {M : Type 1} (𝓤 : URA M) (H : Heap 𝓤) (A : Atoms 𝓤) (W : Given
     to-run = (((κm, (κc, (α ∷ [], tt))), (qm, (qc, (fullShare, tt))), tt, passed, (mach h ∷ [], (sm ∷ [], (sc ∷ [], (sliceVal (b, 0) n ∷ [], (vint w64 budget ∷ [], tt)))))), tt)
 
     abbrev Owned : Fml
-    Owned = owns (T.the-row ∷ MutSlice (named 0) κm u8 ∷ MutSlice (named 1) κc u8 ∷ ShrSlice (named 2) (α ∷ []) K.the-row ∷ u64 ∷ []) passed (mach h ∷ [], (sm ∷ [], (sc ∷ [], (sliceVal (b, 0) n ∷ [], (vint w64 budget ∷ [], tt)))))
+    Owned = owns (T.the-row ∷ MutSlice (named 0) κm u8 ∷ MutSlice (named 1) κc u8 ∷ ShrSlice (named 2) (α ∷ []) K.the-row ∷ u64 ∷ []) passed
+        (mach h ∷ [], (sm ∷ [], (sc ∷ [], (sliceVal (b, 0) n ∷ [], (vint w64 budget ∷ [], tt)))))
 
     asked : ent 𝓤 (⋆ 𝓤 H A (Tokens ∷ ‵ Owned ∷ [])) (Run 𝓤 H A at-mem run .pre to-run)
     asked = qed W (Tokens ∷ ‵ Owned ∷ []) ∵ join ! $ frame ! $ done !
@@ -129,7 +145,8 @@ module _ {M : Type 1} (𝓤 : URA M) (H : Heap 𝓤) (A : Atoms 𝓤) (W : Given
     Last = Unit {0} × (List ℕ × (List ℕ × (Unit {0} × (Unit {0} × Unit {0}))))
 
     -- of what `run` ensures, the lengths of memory and console are kept
-    left : (r : RunResult) → ent 𝓤 (ensured 𝓤 H A callee.ended (callee.clauses 𝓤 H A at-mem run) (κm, (κc, (α ∷ [], tt))) passed tt r) (ex 𝓤 (λ (zs : Last). sem 𝓤 H A (lasts callee.ended (κm, (κc, (α ∷ [], tt))) passed zs)))
+    left : (r : RunResult) → ent 𝓤 (ensured 𝓤 H A callee.ended (callee.clauses 𝓤 H A at-mem run) (κm, (κc, (α ∷ [], tt))) passed tt r)
+        (ex 𝓤 (λ (zs : Last). sem 𝓤 H A (lasts callee.ended (κm, (κc, (α ∷ [], tt))) passed zs)))
     left r = exE 𝓤 _ (λ zs. via 𝓤 _ (fst∗ 𝓤 _ (callee.clauses 𝓤 H A at-mem run (κm, (κc, (α ∷ [], tt))) passed .ensures tt r (atExit callee.ended (κm, (κc, (α ∷ [], tt))) passed zs)))
         (exI 𝓤 (λ (ws : Last). sem 𝓤 H A (lasts callee.ended (κm, (κc, (α ∷ [], tt))) passed ws)) zs))
 
@@ -137,32 +154,52 @@ module _ {M : Type 1} (𝓤 : URA M) (H : Heap 𝓤) (A : Atoms 𝓤) (W : Given
     walk : Room u8 (length (xm .now)) → Room u8 (length (xc .now))
         → ent 𝓤 (onEntry 𝓤 H A f.signature (κm, (κc, tt)) (qm, (qc, tt)) a at) (WpFn 𝓤 H C Λ code.function (mach h ∷ sm ∷ sc ∷ machKeys ks ∷ vint w64 n ∷ vint w64 budget ∷ []) Post)
     walk gm gc =
-        qed W ((‵ (flft κm qm) ⊛ ‵ (flft κc qc) ⊛ ‵ ftrue) ∷ ‵ (owns (T.the-row ∷ MutSlice (named 0) κm u8 ∷ MutSlice (named 1) κc u8 ∷ Array K.the-row 64 ∷ u64 ∷ u64 ∷ []) a at) ∷ []) ∵ enter ! C Λ code.function (mach h ∷ sm ∷ sc ∷ machKeys ks ∷ vint w64 n ∷ vint w64 budget ∷ []) _ $
-        alloc1 ! (λ l₀. alloc1 ! (λ l₁. alloc1 ! (λ l₂. alloc1 ! (λ l₃. alloc1 ! (λ l₄. alloc1 ! (λ l₅. alloc1 ! (λ l₆. alloc1 ! (λ l₇. alloc1 ! (λ l₈. alloc1 ! (λ l₉. alloc1 ! (λ l₁₀. alloc1 ! (λ l₁₁. alloc1 ! (λ l₁₂. alloc1 ! (λ l₁₃. alloc0 ! $ params1 ! $
-        pass1 ! (init ! 24 refl (LL.lawful T.the-type T′.the-laws 𝓤 H A W .typed h _ h-is .0)) $ pass1 ! (init ! 22 refl (tt, (tt, (record { fits = gm .0 }, tt)))) $ pass1 ! (init ! 20 refl (tt, (tt, (record { fits = gc .0 }, tt)))) $
-        pass1 ! (init ! 18 refl (array-typed K.the-row (LL.lawful K.the-type K′.the-laws 𝓤 H A W .typed) 64 ks _ ks-is .0)) $ pass1 ! (init ! 16 refl (tt, record { fits = n-fits })) $ pass1 ! (init ! 14 refl (tt, record { fits = budget-fits })) $ pass0 ! $
+        qed W ((‵ (flft κm qm) ⊛ ‵ (flft κc qc) ⊛ ‵ ftrue) ∷ ‵ (owns
+        (T.the-row ∷ MutSlice (named 0) κm u8 ∷ MutSlice (named 1) κc u8 ∷ Array K.the-row 64 ∷ u64 ∷ u64 ∷ []) a at) ∷ []) ∵ enter ! C Λ
+        code.function (mach h ∷ sm ∷ sc ∷ machKeys ks ∷ vint w64 n ∷ vint w64 budget ∷ []) _ $
+        alloc1 ! (λ l₀. alloc1 !
+        (λ l₁. alloc1 ! (λ l₂. alloc1 ! (λ l₃. alloc1 ! (λ l₄. alloc1 !
+        (λ l₅. alloc1 ! (λ l₆. alloc1 ! (λ l₇. alloc1 ! (λ l₈. alloc1 !
+        (λ l₉. alloc1 ! (λ l₁₀. alloc1 ! (λ l₁₁. alloc1 ! (λ l₁₂. alloc1 ! (λ l₁₃. alloc0 ! $ params1 ! $
+        pass1 ! (init ! 24 refl (LL.lawful T.the-type T′.the-laws 𝓤 H A W .typed h _ h-is .0)) $ pass1 !
+        (init ! 22 refl (tt, (tt, (record { fits = gm .0 }, tt)))) $ pass1 ! (init ! 20 refl (tt, (tt, (record { fits = gc .0 }, tt)))) $
+        pass1 ! (init ! 18 refl (array-typed K.the-row (LL.lawful K.the-type K′.the-laws 𝓤 H A W .typed) 64 ks _ ks-is .0)) $ pass1 !
+        (init ! 16 refl (tt, record { fits = n-fits })) $ pass1 ! (init ! 14 refl (tt, record { fits = budget-fits })) $ pass0 ! $
         move ! (29 ∷ []) $ fsplit ! $ drop ! $ fsplit ! $ move ! (1 ∷ []) $ fsplit ! $ move ! (1 ∷ []) $ fsplit ! $ move ! (1 ∷ []) $ drop ! $
         move ! (31 ∷ []) $ split ! $ move ! (1 ∷ []) $ split ! $ move ! (1 ∷ []) $ drop ! $ move ! (1 ∷ 0 ∷ 4 ∷ 3 ∷ 2 ∷ []) $
         -- [the tokens of memory and console; memory; console; the keys; _13; …; .. ; _0; …]
         assigns ! (of-opd ! (load ! (from ! (stop !)) (look ! 23 refl))) (from ! (stop !)) (init ! 17 refl (array-typed K.the-row (LL.lawful K.the-type K′.the-laws 𝓤 H A W .typed) 64 ks _ ks-is .0)) $
         assigns ! (addr ! (from ! (fld ! refl (hop ! (look-in ! 27 (sub ! 0 refl (whole !))) (stop !))))) (from ! (stop !)) (init ! 15 refl (tt, tt)) $
-        assigns ! (agg ! (and-then ! (load ! (from ! (stop !)) (look ! 15 refl)) (and-then ! (load ! (from ! (fld ! refl (stop !))) (look-in ! 27 (sub ! 1 refl (whole !)))) (no-more !)))) (from ! (stop !)) (init ! 13 refl (tt, (tt, (record { fits = gm .0 }, tt)))) $
+        assigns ! (agg ! (and-then ! (load ! (from ! (stop !)) (look ! 15 refl))
+        (and-then ! (load ! (from ! (fld ! refl (stop !))) (look-in ! 27 (sub ! 1 refl (whole !)))) (no-more !)))) (from ! (stop !))
+        (init ! 13 refl (tt, (tt, (record { fits = gm .0 }, tt)))) $
         assigns ! (addr ! (from ! (fld ! refl (hop ! (look-in ! 25 (sub ! 0 refl (whole !))) (stop !))))) (from ! (stop !)) (init ! 11 refl (tt, tt)) $
-        assigns ! (agg ! (and-then ! (load ! (from ! (stop !)) (look ! 11 refl)) (and-then ! (load ! (from ! (fld ! refl (stop !))) (look-in ! 25 (sub ! 1 refl (whole !)))) (no-more !)))) (from ! (stop !)) (init ! 9 refl (tt, (tt, (record { fits = gc .0 }, tt)))) $
+        assigns ! (agg ! (and-then ! (load ! (from ! (stop !)) (look ! 11 refl))
+        (and-then ! (load ! (from ! (fld ! refl (stop !))) (look-in ! 25 (sub ! 1 refl (whole !)))) (no-more !)))) (from ! (stop !))
+        (init ! 9 refl (tt, (tt, (record { fits = gc .0 }, tt)))) $
         assigns ! (addr ! (from ! (stop !))) (from ! (stop !)) (init ! 7 refl (tt, tt)) $
-        assigns ! (agg ! (and-then ! (load ! (from ! (stop !)) (look ! 7 refl)) (and-then ! (load ! (from ! (stop !)) (look ! 21 refl)) (no-more !)))) (from ! (stop !)) (init ! 5 refl (tt, (tt, (record { fits = n-fits }, tt)))) $
+        assigns ! (agg ! (and-then ! (load ! (from ! (stop !)) (look ! 7 refl))
+        (and-then ! (load ! (from ! (stop !)) (look ! 21 refl)) (no-more !)))) (from ! (stop !))
+        (init ! 5 refl (tt, (tt, (record { fits = n-fits }, tt)))) $
         -- the first n keys are lent for a lifetime that is made here
         lft-new ! tt (λ α. move ! (18 ∷ 5 ∷ []) $
-        use2 W (later (some (λ (γ : GName). ‵ (ShrSlice (named 2) (α ∷ []) K.the-row .own (first 𝓤 H A W l₇ n ks len few γ) (sliceVal (l₇, 0) n ∷ [])) ⊛ ‵ (Kept 𝓤 H A W l₇ n ks len few (α ∷ []))))) (lends-keys 𝓤 H A W l₇ n ks len few (named 2) (α ∷ [])) $ await ! tt $ pick ! (λ γ. split ! $
+        use2 W (later (some (λ (γ : GName). ‵ (ShrSlice (named 2) (α ∷ []) K.the-row .own (first 𝓤 H A W l₇ n ks len few γ)
+        (sliceVal (l₇, 0) n ∷ [])) ⊛ ‵ (Kept 𝓤 H A W l₇ n ks len few (α ∷ []))))) (lends-keys 𝓤 H A W l₇ n ks len few (named 2) (α ∷ [])) $ await !
+        tt $ pick ! (λ γ. split ! $
         -- [the keys lent; what the lender keeps; α's token; the tokens of memory and console; memory; console; _13; …]
-        nothing ! $ owned ! u64 (Is u64) (uint-makes 𝓤 H A W w64) budget _ (refl, budget-fits) $ fjoin ! $ move ! (1 ∷ 0 ∷ []) $ fjoin ! $ move ! (6 ∷ 0 ∷ []) $ fjoin ! $ move ! (5 ∷ 0 ∷ []) $ fjoin ! $
+        nothing ! $ owned ! u64 (Is u64) (uint-makes 𝓤 H A W w64) budget _ (refl, budget-fits) $ fjoin ! $ move ! (1 ∷ 0 ∷ []) $ fjoin ! $ move !
+        (6 ∷ 0 ∷ []) $ fjoin ! $ move ! (5 ∷ 0 ∷ []) $ fjoin ! $
         owned ! T.the-row (Is T.the-row) (LL.makes T.the-type T′.the-plain 𝓤 H A) h _ h-is $ fjoin ! $
         -- [what is passed; what the lender keeps; α's token; memory's; the console's; _13; …]
         nothing ! $ move ! (3 ∷ 0 ∷ []) $ join ! $ move ! (4 ∷ 0 ∷ []) $ join ! $ move ! (3 ∷ 0 ∷ []) $ join ! $
         use2 W (raw (Run 𝓤 H A at-mem run .pre (to-run l₇ α γ))) (asked l₇ α γ) $
         -- [the call's; what the lender keeps; _13; …; _8; …; _7's end; _6; …; .. ; _0; …]
-        calls-at ! fm (Run 𝓤 H A at-mem run) known (to-run l₇ α γ) (and-then ! (load ! (from ! (stop !)) (look ! 25 refl)) (and-then ! (load ! (from ! (stop !)) (look ! 10 refl)) (and-then ! (load ! (from ! (stop !)) (look ! 6 refl)) (and-then ! (load ! (from ! (stop !)) (look ! 2 refl)) (and-then ! (load ! (from ! (stop !)) (look ! 15 refl)) (no-more !)))))) (λ w.
-        use1 W (later (some (λ (r : RunResult). (Tokens l₇ α γ ⊛ ‵ (R.the-row .own r (w ∷ []))) ⊛ raw (ensured 𝓤 H A callee.ended (callee.clauses 𝓤 H A at-mem run) (κm, (κc, (α ∷ [], tt))) (passed l₇ α γ) tt r)))) (id⊢ 𝓤 _) $ await ! tt $ pick ! (λ r.
+        calls-at ! fm (Run 𝓤 H A at-mem run) known (to-run l₇ α γ) (and-then ! (load ! (from ! (stop !)) (look ! 25 refl))
+        (and-then ! (load ! (from ! (stop !)) (look ! 10 refl)) (and-then ! (load ! (from ! (stop !)) (look ! 6 refl))
+        (and-then ! (load ! (from ! (stop !)) (look ! 2 refl)) (and-then ! (load ! (from ! (stop !)) (look ! 15 refl)) (no-more !)))))) (λ w.
+        use1 W (later (some (λ (r : RunResult). (Tokens l₇ α γ ⊛ ‵ (R.the-row .own r (w ∷ []))) ⊛ raw
+        (ensured 𝓤 H A callee.ended (callee.clauses 𝓤 H A at-mem run) (κm, (κc, (α ∷ [], tt))) (passed l₇ α γ) tt r)))) (id⊢ 𝓤 _) $ await ! tt $ pick
+        ! (λ r.
         split ! $ move ! (1 ∷ []) $ use1 W (some (λ (zs : Last l₇ α γ). ‵ (lasts callee.ended (κm, (κc, (α ∷ [], tt))) (passed l₇ α γ) zs))) (left l₇ α γ r) $ pick ! (λ zs.
         fsplit ! $ drop ! $ fsplit ! $ fsplit ! $ move ! (1 ∷ []) $ feqL ! (λ lm. move ! (1 ∷ []) $ fsplit ! $ fsplit ! $ move ! (1 ∷ []) $ feqL ! (λ lc.
         -- [the console's last list; …; memory's; the tokens and the result; what the lender keeps; _13; …]
@@ -173,21 +210,51 @@ module _ {M : Type 1} (𝓤 : URA M) (H : Heap 𝓤) (A : Atoms 𝓤) (W : Given
         split ! $ move ! (1 ∷ []) $ split ! $ move ! (1 ∷ []) $ split ! $ lft-end ! tt $ move ! (0 ∷ 7 ∷ []) $
         use2 W (later (‵ (fat fullShare keysTy l₇ 0 (machKeys ks)))) (keys-back 𝓤 H A W l₇ n ks len few (α ∷ [])) $ await ! tt $
         -- [_7; true; the console's token; memory's; the console's last list; …; memory's; _13; …; .. ; _0; …]
-        returns ! (look ! 32 refl) $ forget ! 0 refl $ forget ! 7 refl $ forget ! 9 refl $ forget ! 11 refl $ forget ! 13 refl $ forget ! 15 refl $ forget ! 17 refl $ forget ! 20 refl $ forget ! 22 refl $ forget ! 24 refl $ forget ! 26 refl $ forget ! 28 refl $ forget ! 30 refl $ forget ! 32 refl $
-        move ! (32 ∷ 33 ∷ []) $ free1 ! $ move ! (30 ∷ 31 ∷ []) $ free1 ! $ move ! (28 ∷ 29 ∷ []) $ free1 ! $ move ! (26 ∷ 27 ∷ []) $ free1 ! $ move ! (24 ∷ 25 ∷ []) $ free1 ! $ move ! (22 ∷ 23 ∷ []) $ free1 ! $ move ! (20 ∷ 21 ∷ []) $ free1 ! $ move ! (0 ∷ 19 ∷ []) $ free1 ! $
-        move ! (16 ∷ 17 ∷ []) $ free1 ! $ move ! (14 ∷ 15 ∷ []) $ free1 ! $ move ! (12 ∷ 13 ∷ []) $ free1 ! $ move ! (10 ∷ 11 ∷ []) $ free1 ! $ move ! (8 ∷ 9 ∷ []) $ free1 ! $ move ! (6 ∷ 7 ∷ []) $ free1 ! $ free0 ! $
+        returns ! (look ! 32 refl) $ forget ! 0 refl $ forget ! 7 refl $ forget ! 9 refl $ forget ! 11 refl $ forget ! 13 refl $ forget ! 15 refl $
+        forget ! 17 refl $ forget ! 20 refl $ forget ! 22 refl $ forget ! 24 refl $ forget ! 26 refl $ forget ! 28 refl $ forget ! 30 refl $ forget !
+        32 refl $
+        move ! (32 ∷ 33 ∷ []) $ free1 ! $ move ! (30 ∷ 31 ∷ []) $ free1 ! $ move ! (28 ∷ 29 ∷ []) $ free1 ! $ move ! (26 ∷ 27 ∷ []) $ free1 ! $ move
+        ! (24 ∷ 25 ∷ []) $ free1 ! $ move ! (22 ∷ 23 ∷ []) $ free1 ! $ move ! (20 ∷ 21 ∷ []) $ free1 ! $ move ! (0 ∷ 19 ∷ []) $ free1 ! $
+        move ! (16 ∷ 17 ∷ []) $ free1 ! $ move ! (14 ∷ 15 ∷ []) $ free1 ! $ move ! (12 ∷ 13 ∷ []) $ free1 ! $ move ! (10 ∷ 11 ∷ []) $ free1 ! $ move
+        ! (8 ∷ 9 ∷ []) $ free1 ! $ move ! (6 ∷ 7 ∷ []) $ free1 ! $ free0 ! $
         keep ! (2 ∷ 1 ∷ 5 ∷ 3 ∷ []) $ by ! (exits r (zs .1 .0) (zs .1 .1 .0) lm lc (subst (Is R.the-row r) (LL.tells R.the-type R′.the-laws r _ is) is))))))))))))))))))))))))
 
-module _ {M : Type 1} (𝓤 : URA M) (H : Heap 𝓤) (A : Atoms 𝓤) (W : Given 𝓤 H A) (at-mem : Memory → SProp 𝓤) (run : Routine → Fun 𝓤) (𝓣 : Tables 𝓤 H) (known : Triple 𝓤 (𝓣 .C #v9·run) (Run 𝓤 H A at-mem run)) where
+module _ {M : Type 1} (𝓤 : URA M) (H : Heap 𝓤) (A : Atoms 𝓤) (W : Given 𝓤 H A) (at-mem : Memory → SProp 𝓤) (run : Routine → Fun 𝓤) (𝓣 : Tables 𝓤 H)
+    (known : Triple 𝓤 (𝓣 .C #v9·run) (Run 𝓤 H A at-mem run)) where
   walks : Walks 𝓤 H A f.ended stayed (WpFn 𝓤 H (𝓣 .C) (𝓣 .Λ) code.function) (f.clauses 𝓤 H A at-mem run)
   walks = walked 𝓤 H A f.ended stayed (f.clauses 𝓤 H A at-mem run) (WpFn 𝓤 H (𝓣 .C) (𝓣 .Λ) code.function)
       (λ κs. (LL.vals T.the-type T′.the-laws, (slice-vals, (slice-vals, (array-vals (LL.vals K.the-type K′.the-laws), (uint-vals w64, (uint-vals w64, tt)))))))
-      (λ κs. (LL.tells T.the-type T′.the-laws, (mut-slice-tells (named 0) (κs .0) u8, (mut-slice-tells (named 1) (κs .1 .0) u8, (array-tells K.the-row (LL.vals K.the-type K′.the-laws) (LL.tells K.the-type K′.the-laws) 64, (uint-tells w64, (uint-tells w64, tt)))))))
-      (λ κs qs bounds a g are. needs 𝓤 (a .1 .1 .1 .1 .0 ≤ 64) _ (λ few. walk 𝓤 H A W at-mem run (κs .0) (κs .1 .0) (qs .0) (qs .1 .0) (a .0) (a .1 .0) (a .1 .1 .0) (a .1 .1 .1 .0) (a .1 .1 .1 .1 .0) (a .1 .1 .1 .1 .1 .0)
+      (λ κs. (
+        LL.tells T.the-type T′.the-laws,
+        (
+          mut-slice-tells (named 0) (κs .0) u8,
+          (
+            mut-slice-tells (named 1) (κs .1 .0) u8,
+            (
+              array-tells K.the-row (LL.vals K.the-type K′.the-laws) (LL.tells K.the-type K′.the-laws) 64,
+              (uint-tells w64, (uint-tells w64, tt)),
+            ),
+          ),
+        ),
+      ))
+      (λ κs qs bounds a g are. needs 𝓤 (a .1 .1 .1 .1 .0 ≤ 64) _ (λ few. walk 𝓤 H A W at-mem run (κs .0) (κs .1 .0) (qs .0) (qs .1 .0) (a .0)
+      (a .1 .0) (a .1 .1 .0) (a .1 .1 .1 .0) (a .1 .1 .1 .1 .0) (a .1 .1 .1 .1 .1 .0)
       (are .0) (are .1 .1 .1 .0) (are .1 .1 .1 .1 .0 .1) (are .1 .1 .1 .1 .1 .0 .1) few (𝓣 .C) (𝓣 .Λ) (fmOf 𝓤 H (W .laws) 𝓣) known (are .1 .0 .0 .1) (are .1 .1 .0 .0 .1)))
 
   meets : Meets 𝓤 H A f.signature (WpFn 𝓤 H (𝓣 .C) (𝓣 .Λ) code.function) (f.spec 𝓤 H A at-mem run)
-  meets = walk-meets 𝓤 H A f.ended stayed W (goes-none 𝓤 H A W 2 (λ _. T.the-row) yes (λ κs x f. refl), (goes-gave-slice 𝓤 H A W 2 0 tt (plain (λ _. u8)), (goes-gave-slice 𝓤 H A W 2 1 tt (plain (λ _. u8)), (goes-none 𝓤 H A W 2 (λ _. Array K.the-row 64) yes (λ κs x f. refl), (goes-none 𝓤 H A W 2 (λ _. u64) yes (λ κs x f. refl), (goes-none 𝓤 H A W 2 (λ _. u64) yes (λ κs x f. refl), tt))))))
+  meets = walk-meets 𝓤 H A f.ended stayed W (
+    goes-none 𝓤 H A W 2 (λ _. T.the-row) yes (λ κs x f. refl),
+    (
+      goes-gave-slice 𝓤 H A W 2 0 tt (plain (λ _. u8)),
+      (
+        goes-gave-slice 𝓤 H A W 2 1 tt (plain (λ _. u8)),
+        (
+          goes-none 𝓤 H A W 2 (λ _. Array K.the-row 64) yes (λ κs x f. refl),
+          (goes-none 𝓤 H A W 2 (λ _. u64) yes (λ κs x f. refl), (goes-none 𝓤 H A W 2 (λ _. u64) yes (λ κs x f. refl), tt)),
+        ),
+      ),
+    ),
+  )
       (f.clauses 𝓤 H A at-mem run) (WpFn 𝓤 H (𝓣 .C) (𝓣 .Λ) code.function) (WpFn-mono 𝓤 H (W .laws) 𝓣 code.function) walks
 
 pub run-spec : {M : Type 1} → stated.statement M

@@ -63,7 +63,13 @@ use Rattle.entry_calls.proofs.single_step.Statement as stated
 use Rattle.entry_calls.proofs.single_step.Code as code
 
 abbrev stayed : Stays (f.ended .signature .params) (f.ended .kept)
-stayed = (stay-none (λ _. T.the-row) yes, (gave-slice (0 ∷ []) tt (plain (λ _. u8)), (gave-slice (1 ∷ []) tt (plain (λ _. u8)), (stay-none (λ _. Array K.the-row 64) yes, (stay-none (λ _. u64) yes, tt)))))
+stayed = (
+  stay-none (λ _. T.the-row) yes,
+  (
+    gave-slice (0 ∷ []) tt (plain (λ _. u8)),
+    (gave-slice (1 ∷ []) tt (plain (λ _. u8)), (stay-none (λ _. Array K.the-row 64) yes, (stay-none (λ _. u64) yes, tt))),
+  ),
+)
 
 abbrev machS : Numbered → Val
 machS s = LL.tuple-val S.the-type S′.the-laws (S.the-type .to s)
@@ -72,7 +78,9 @@ machS s = LL.tuple-val S.the-type S′.the-laws (S.the-type .to s)
 abbrev Step : {M : Type 1} (𝓤 : URA M) (H : Heap 𝓤) (A : Atoms 𝓤) (at-mem : Memory → SProp 𝓤) (run : Routine → Fun 𝓤) → Contract 𝓤
 Step 𝓤 H A at-mem run = tripleOf 𝓤 H A callee.signature (callee.spec 𝓤 H A at-mem run)
 
-module _ {M : Type 1} (𝓤 : URA M) (H : Heap 𝓤) (A : Atoms 𝓤) (W : Given 𝓤 H A) (at-mem : Memory → SProp 𝓤) (run : Routine → Fun 𝓤) (κm κc : Lft) (qm qc : Share) (h : Machine) (xm xc : RefT (List ℕ)) (ks : List Key) (n : ℕ) (h-is : Is T.the-row h (mach h ∷ [])) (ks-is : Is (Array K.the-row 64) ks (machKeys ks ∷ [])) (n-fits : n < 2 ^ 64) (few : n ≤ 64) where
+module _ {M : Type 1} (𝓤 : URA M) (H : Heap 𝓤) (A : Atoms 𝓤) (W : Given 𝓤 H A) (at-mem : Memory → SProp 𝓤) (run : Routine → Fun 𝓤) (κm κc : Lft)
+    (qm qc : Share) (h : Machine) (xm xc : RefT (List ℕ)) (ks : List Key) (n : ℕ) (h-is : Is T.the-row h (mach h ∷ []))
+    (ks-is : Is (Array K.the-row 64) ks (machKeys ks ∷ [])) (n-fits : n < 2 ^ 64) (few : n ≤ 64) where
   abbrev len : length ks ≡ 64
   len = ks-is .1 .0 .1
 
@@ -98,7 +106,8 @@ module _ {M : Type 1} (𝓤 : URA M) (H : Heap 𝓤) (A : Atoms 𝓤) (W : Given
       → ent 𝓤 (⋆ 𝓤 H A (‵ (flft κm qm) ∷ ‵ (flft κc qc) ∷ ‵ (finally u8 (xm .name) zm) ∷ ‵ (finally u8 (xc .name) zc) ∷ [])) (Post (machS s))
   exits s zm zc lm lc is =
       qed W (‵ (flft κm qm) ∷ ‵ (flft κc qc) ∷ ‵ (finally u8 (xm .name) zm) ∷ ‵ (finally u8 (xc .name) zc) ∷ []) ∵
-      suffices ! _ (ends-at 𝓤 H A f.ended stayed (f.clauses 𝓤 H A at-mem run) W (((κm, (κc, tt)), (qm, (qc, tt)), tt, a, at), tt) (machS s) s (tt, (zm, (zc, (tt, (tt, tt))))) (tt, (lm, (lc, (tt, (tt, tt)))))) $
+      suffices ! _ (ends-at 𝓤 H A f.ended stayed (f.clauses 𝓤 H A at-mem run) W (((κm, (κc, tt)), (qm, (qc, tt)), tt, a, at), tt) (machS s) s
+      (tt, (zm, (zc, (tt, (tt, tt))))) (tt, (lm, (lc, (tt, (tt, tt)))))) $
       suffices ! _ (ensures-nothing 𝓤 _) $
       nothing ! $ move ! (2 ∷ 0 ∷ []) $ join ! $ move ! (1 ∷ 0 ∷ []) $ join ! $ frame ! $
       -- [memory's last list; the console's]
@@ -125,7 +134,8 @@ module _ {M : Type 1} (𝓤 : URA M) (H : Heap 𝓤) (A : Atoms 𝓤) (W : Given
     to-step = ((lfts, (fullShare, (qm, (qc, (fullShare, tt)))), tt, passed, (vptr d 0 ∷ [], (sm ∷ [], (sc ∷ [], (sliceVal (b, 0) n ∷ [], tt))))), tt)
 
     abbrev Owned : Fml
-    Owned = owns (MutRef (named 0) (β ∷ []) T.the-row ∷ MutSlice (named 1) κm u8 ∷ MutSlice (named 2) κc u8 ∷ ShrSlice (named 3) (α ∷ []) K.the-row ∷ []) passed (vptr d 0 ∷ [], (sm ∷ [], (sc ∷ [], (sliceVal (b, 0) n ∷ [], tt))))
+    Owned = owns (MutRef (named 0) (β ∷ []) T.the-row ∷ MutSlice (named 1) κm u8 ∷ MutSlice (named 2) κc u8 ∷ ShrSlice (named 3) (α ∷ []) K.the-row ∷
+        []) passed (vptr d 0 ∷ [], (sm ∷ [], (sc ∷ [], (sliceVal (b, 0) n ∷ [], tt))))
 
     asked : ent 𝓤 (⋆ 𝓤 H A (Tokens ∷ ‵ Owned ∷ [])) (Step 𝓤 H A at-mem run .pre to-step)
     asked = qed W (Tokens ∷ ‵ Owned ∷ []) ∵ join ! $ frame ! $ done !
@@ -135,15 +145,23 @@ module _ {M : Type 1} (𝓤 : URA M) (H : Heap 𝓤) (A : Atoms 𝓤) (W : Given
 
     -- of what `single_step` ensures, the record and the lengths of memory and console are kept
     left : (m : ℕ) → ent 𝓤 (ensured 𝓤 H A callee.ended (callee.clauses 𝓤 H A at-mem run) lfts passed tt m) (ex 𝓤 (λ (zs : Last). sem 𝓤 H A (lasts callee.ended lfts passed zs)))
-    left m = exE 𝓤 _ (λ zs. via 𝓤 _ (fst∗ 𝓤 _ (callee.clauses 𝓤 H A at-mem run lfts passed .ensures tt m (atExit callee.ended lfts passed zs))) (exI 𝓤 (λ (ws : Last). sem 𝓤 H A (lasts callee.ended lfts passed ws)) zs))
+    left m = exE 𝓤 _ (λ zs. via 𝓤 _ (fst∗ 𝓤 _ (callee.clauses 𝓤 H A at-mem run lfts passed .ensures tt m (atExit callee.ended lfts passed zs)))
+        (exI 𝓤 (λ (ws : Last). sem 𝓤 H A (lasts callee.ended lfts passed ws)) zs))
 
   module _ (C : Calls 𝓤 H) (Λ : Loops 𝓤 H) (fm : FmC 𝓤 H (W .laws) C) (known : Triple 𝓤 (C #v9·single-step) (Step 𝓤 H A at-mem run)) where
     walk : Room u8 (length (xm .now)) → Room u8 (length (xc .now))
         → ent 𝓤 (onEntry 𝓤 H A f.signature (κm, (κc, tt)) (qm, (qc, tt)) a at) (WpFn 𝓤 H C Λ code.function (mach h ∷ sm ∷ sc ∷ machKeys ks ∷ vint w64 n ∷ []) Post)
     walk gm gc =
-        qed W ((‵ (flft κm qm) ⊛ ‵ (flft κc qc) ⊛ ‵ ftrue) ∷ ‵ (owns (T.the-row ∷ MutSlice (named 0) κm u8 ∷ MutSlice (named 1) κc u8 ∷ Array K.the-row 64 ∷ u64 ∷ []) a at) ∷ []) ∵ enter ! C Λ code.function (mach h ∷ sm ∷ sc ∷ machKeys ks ∷ vint w64 n ∷ []) _ $
-        alloc1 ! (λ l₀. alloc1 ! (λ l₁. alloc1 ! (λ l₂. alloc1 ! (λ l₃. alloc1 ! (λ l₄. alloc1 ! (λ l₅. alloc1 ! (λ l₆. alloc1 ! (λ l₇. alloc1 ! (λ l₈. alloc1 ! (λ l₉. alloc1 ! (λ l₁₀. alloc1 ! (λ l₁₁. alloc1 ! (λ l₁₂. alloc1 ! (λ l₁₃. alloc1 ! (λ l₁₄. alloc1 ! (λ l₁₅. alloc1 ! (λ l₁₆. alloc0 ! $ params1 ! $
-        pass1 ! (init ! 30 refl (LL.lawful T.the-type T′.the-laws 𝓤 H A W .typed h _ h-is .0)) $ pass1 ! (init ! 28 refl (tt, (tt, (record { fits = gm .0 }, tt)))) $ pass1 ! (init ! 26 refl (tt, (tt, (record { fits = gc .0 }, tt)))) $
+        qed W ((‵ (flft κm qm) ⊛ ‵ (flft κc qc) ⊛ ‵ ftrue) ∷ ‵ (owns
+        (T.the-row ∷ MutSlice (named 0) κm u8 ∷ MutSlice (named 1) κc u8 ∷ Array K.the-row 64 ∷ u64 ∷ []) a at) ∷ []) ∵ enter ! C Λ code.function
+        (mach h ∷ sm ∷ sc ∷ machKeys ks ∷ vint w64 n ∷ []) _ $
+        alloc1 ! (λ l₀. alloc1 !
+        (λ l₁. alloc1 ! (λ l₂. alloc1 ! (λ l₃. alloc1 ! (λ l₄. alloc1 !
+        (λ l₅. alloc1 ! (λ l₆. alloc1 ! (λ l₇. alloc1 ! (λ l₈. alloc1 !
+        (λ l₉. alloc1 ! (λ l₁₀. alloc1 ! (λ l₁₁. alloc1 ! (λ l₁₂. alloc1 !
+        (λ l₁₃. alloc1 ! (λ l₁₄. alloc1 ! (λ l₁₅. alloc1 ! (λ l₁₆. alloc0 ! $ params1 ! $
+        pass1 ! (init ! 30 refl (LL.lawful T.the-type T′.the-laws 𝓤 H A W .typed h _ h-is .0)) $ pass1 !
+        (init ! 28 refl (tt, (tt, (record { fits = gm .0 }, tt)))) $ pass1 ! (init ! 26 refl (tt, (tt, (record { fits = gc .0 }, tt)))) $
         pass1 ! (init ! 24 refl (array-typed K.the-row (LL.lawful K.the-type K′.the-laws 𝓤 H A W .typed) 64 ks _ ks-is .0)) $ pass1 ! (init ! 22 refl (tt, record { fits = n-fits })) $ pass0 ! $
         move ! (35 ∷ []) $ fsplit ! $ drop ! $ fsplit ! $ move ! (1 ∷ []) $ fsplit ! $ move ! (1 ∷ []) $ fsplit ! $ move ! (1 ∷ []) $ drop ! $
         move ! (37 ∷ []) $ split ! $ move ! (1 ∷ []) $ split ! $ move ! (1 ∷ []) $ drop ! $ move ! (1 ∷ 0 ∷ 4 ∷ 3 ∷ 2 ∷ []) $
@@ -152,24 +170,38 @@ module _ {M : Type 1} (𝓤 : URA M) (H : Heap 𝓤) (A : Atoms 𝓤) (W : Given
         assigns ! (of-opd ! (load ! (from ! (stop !)) (look ! 35 refl))) (from ! (stop !)) (init ! 23 refl (LL.lawful T.the-type T′.the-laws 𝓤 H A W .typed h _ h-is .0)) $
         assigns ! (addr ! (from ! (stop !))) (from ! (stop !)) (init ! 19 refl (tt, tt)) $
         assigns ! (addr ! (from ! (fld ! refl (hop ! (look-in ! 33 (sub ! 0 refl (whole !))) (stop !))))) (from ! (stop !)) (init ! 17 refl (tt, tt)) $
-        assigns ! (agg ! (and-then ! (load ! (from ! (stop !)) (look ! 17 refl)) (and-then ! (load ! (from ! (fld ! refl (stop !))) (look-in ! 33 (sub ! 1 refl (whole !)))) (no-more !)))) (from ! (stop !)) (init ! 15 refl (tt, (tt, (record { fits = gm .0 }, tt)))) $
+        assigns ! (agg ! (and-then ! (load ! (from ! (stop !)) (look ! 17 refl))
+        (and-then ! (load ! (from ! (fld ! refl (stop !))) (look-in ! 33 (sub ! 1 refl (whole !)))) (no-more !)))) (from ! (stop !))
+        (init ! 15 refl (tt, (tt, (record { fits = gm .0 }, tt)))) $
         assigns ! (addr ! (from ! (fld ! refl (hop ! (look-in ! 31 (sub ! 0 refl (whole !))) (stop !))))) (from ! (stop !)) (init ! 13 refl (tt, tt)) $
-        assigns ! (agg ! (and-then ! (load ! (from ! (stop !)) (look ! 13 refl)) (and-then ! (load ! (from ! (fld ! refl (stop !))) (look-in ! 31 (sub ! 1 refl (whole !)))) (no-more !)))) (from ! (stop !)) (init ! 11 refl (tt, (tt, (record { fits = gc .0 }, tt)))) $
+        assigns ! (agg ! (and-then ! (load ! (from ! (stop !)) (look ! 13 refl))
+        (and-then ! (load ! (from ! (fld ! refl (stop !))) (look-in ! 31 (sub ! 1 refl (whole !)))) (no-more !)))) (from ! (stop !))
+        (init ! 11 refl (tt, (tt, (record { fits = gc .0 }, tt)))) $
         assigns ! (addr ! (from ! (stop !))) (from ! (stop !)) (init ! 9 refl (tt, tt)) $
-        assigns ! (agg ! (and-then ! (load ! (from ! (stop !)) (look ! 9 refl)) (and-then ! (load ! (from ! (stop !)) (look ! 27 refl)) (no-more !)))) (from ! (stop !)) (init ! 7 refl (tt, (tt, (record { fits = n-fits }, tt)))) $
+        assigns ! (agg ! (and-then ! (load ! (from ! (stop !)) (look ! 9 refl))
+        (and-then ! (load ! (from ! (stop !)) (look ! 27 refl)) (no-more !)))) (from ! (stop !))
+        (init ! 7 refl (tt, (tt, (record { fits = n-fits }, tt)))) $
         -- the first n keys and the record are lent for lifetimes that are made here
         lft-new ! tt (λ α. move ! (26 ∷ 5 ∷ []) $
-        use2 W (later (some (λ (γ : GName). ‵ (ShrSlice (named 3) (α ∷ []) K.the-row .own (first 𝓤 H A W l₆ n ks len few γ) (sliceVal (l₆, 0) n ∷ [])) ⊛ ‵ (Kept 𝓤 H A W l₆ n ks len few (α ∷ []))))) (lends-keys 𝓤 H A W l₆ n ks len few (named 3) (α ∷ [])) $ await ! tt $ pick ! (λ γ. split ! $
+        use2 W (later (some (λ (γ : GName). ‵ (ShrSlice (named 3) (α ∷ []) K.the-row .own (first 𝓤 H A W l₆ n ks len few γ)
+        (sliceVal (l₆, 0) n ∷ [])) ⊛ ‵ (Kept 𝓤 H A W l₆ n ks len few (α ∷ []))))) (lends-keys 𝓤 H A W l₆ n ks len few (named 3) (α ∷ [])) $ await !
+        tt $ pick ! (λ γ. split ! $
         lft-new ! tt (λ β. move ! (26 ∷ []) $
-        use1 W (later (some (λ (δ : GName). ‵ (MutRef (named 0) (β ∷ []) T.the-row .own (record { ptr = (l₇, 0); name = δ; now = h }) (vptr l₇ 0 ∷ [])) ⊛ ‵ (flent (β ∷ []) (Body (mem T.the-row) l₇ 0 δ))))) (lends-record 𝓤 H A W (β ∷ []) l₇ h h-is) $ await ! tt $ pick ! (λ δ. split ! $
+        use1 W (later (some (λ (δ : GName). ‵ (MutRef (named 0) (β ∷ []) T.the-row .own (record { ptr = (l₇, 0); name = δ; now = h })
+        (vptr l₇ 0 ∷ [])) ⊛ ‵ (flent (β ∷ []) (Body (mem T.the-row) l₇ 0 δ))))) (lends-record 𝓤 H A W (β ∷ []) l₇ h h-is) $ await ! tt $ pick !
+        (λ δ. split ! $
         -- [the record lent; what its lender keeps; β's token; the keys lent; what their lender keeps; α's token; the tokens of memory and console; memory; console; _16; …]
         nothing ! $ move ! (4 ∷ 0 ∷ []) $ fjoin ! $ move ! (9 ∷ 0 ∷ []) $ fjoin ! $ move ! (8 ∷ 0 ∷ []) $ fjoin ! $ move ! (1 ∷ 0 ∷ []) $ fjoin ! $
         -- [what is passed; what the record's lender keeps; β's token; what the keys' keeps; α's token; memory's; the console's; _16; …]
         nothing ! $ move ! (5 ∷ 0 ∷ []) $ join ! $ move ! (6 ∷ 0 ∷ []) $ join ! $ move ! (5 ∷ 0 ∷ []) $ join ! $ move ! (3 ∷ 0 ∷ []) $ join ! $
         use2 W (raw (Step 𝓤 H A at-mem run .pre (to-step l₆ α γ l₇ β δ))) (asked l₆ α γ l₇ β δ) $
         -- [the call's; what the lenders keep; _16; …; _8; …; _7's end; _6's; _5; …; .. ; _0; …]
-        calls-at ! fm (Step 𝓤 H A at-mem run) known (to-step l₆ α γ l₇ β δ) (and-then ! (load ! (from ! (stop !)) (look ! 17 refl)) (and-then ! (load ! (from ! (stop !)) (look ! 13 refl)) (and-then ! (load ! (from ! (stop !)) (look ! 9 refl)) (and-then ! (load ! (from ! (stop !)) (look ! 5 refl)) (no-more !))))) (λ w.
-        use1 W (later (some (λ (m : ℕ). (Tokens l₆ α γ l₇ β δ ⊛ ‵ (u32 .own m (w ∷ []))) ⊛ raw (ensured 𝓤 H A callee.ended (callee.clauses 𝓤 H A at-mem run) (lfts l₆ α γ l₇ β δ) (passed l₆ α γ l₇ β δ) tt m)))) (id⊢ 𝓤 _) $ await ! tt $ pick ! (λ m.
+        calls-at ! fm (Step 𝓤 H A at-mem run) known (to-step l₆ α γ l₇ β δ)
+        (and-then ! (load ! (from ! (stop !)) (look ! 17 refl)) (and-then ! (load ! (from ! (stop !)) (look ! 13 refl))
+        (and-then ! (load ! (from ! (stop !)) (look ! 9 refl)) (and-then ! (load ! (from ! (stop !)) (look ! 5 refl)) (no-more !))))) (λ w.
+        use1 W (later (some (λ (m : ℕ). (Tokens l₆ α γ l₇ β δ ⊛ ‵ (u32 .own m (w ∷ []))) ⊛ raw
+        (ensured 𝓤 H A callee.ended (callee.clauses 𝓤 H A at-mem run) (lfts l₆ α γ l₇ β δ) (passed l₆ α γ l₇ β δ) tt m)))) (id⊢ 𝓤 _) $ await ! tt $
+        pick ! (λ m.
         split ! $ move ! (1 ∷ []) $ use1 W (some (λ (zs : Last l₆ α γ l₇ β δ). ‵ (lasts callee.ended (lfts l₆ α γ l₇ β δ) (passed l₆ α γ l₇ β δ) zs))) (left l₆ α γ l₇ β δ m) $ pick ! (λ zs.
         fsplit ! $ move ! (1 ∷ []) $ fsplit ! $ fsplit ! $ move ! (1 ∷ []) $ feqL ! (λ lm. move ! (1 ∷ []) $ fsplit ! $ fsplit ! $ move ! (1 ∷ []) $ feqL ! (λ lc.
         -- [the console's last list; …; memory's; the record's last value; the tokens and the result; what the lenders keep; _16; …]
@@ -183,21 +215,53 @@ module _ {M : Type 1} (𝓤 : URA M) (H : Heap 𝓤) (A : Atoms 𝓤) (W : Given
         move ! (1 ∷ []) $ peeks ! T.the-row (Is T.the-row) (shows 𝓤 H A T.the-row) (zs .0) (mach (zs .0) ∷ []) (λ x-is.
         -- [what the record owns; _7; _6; true; the console's token; memory's; the console's last list; …; memory's; _16; …; .. ; _0; …]
         assigns ! (of-opd ! (load ! (from ! (stop !)) (look ! 1 refl))) (from ! (stop !)) (init ! 9 refl (LL.lawful T.the-type T′.the-laws 𝓤 H A W .typed (zs .0) _ x-is .0)) $
-        assigns ! (agg ! (and-then ! (load ! (from ! (stop !)) (look ! 9 refl)) (and-then ! (load ! (from ! (stop !)) (look ! 25 refl)) (no-more !)))) (from ! (stop !)) (init ! 39 refl (LL.lawful S.the-type S′.the-laws 𝓤 H A W .typed (record { machine = zs .0; number = m }) _ (LL.owes S.the-type S′.the-laws (record { machine = zs .0; number = m }) (x-is, ((refl, is .1), tt))) .0)) $
-        returns ! (look ! 39 refl) $ forget ! 1 refl $ forget ! 2 refl $ forget ! 9 refl $ forget ! 11 refl $ forget ! 13 refl $ forget ! 15 refl $ forget ! 17 refl $ forget ! 19 refl $ forget ! 21 refl $ forget ! 23 refl $ forget ! 25 refl $ forget ! 29 refl $ forget ! 31 refl $ forget ! 33 refl $ forget ! 35 refl $ forget ! 37 refl $ forget ! 39 refl $
-        move ! (39 ∷ 40 ∷ []) $ free1 ! $ move ! (37 ∷ 38 ∷ []) $ free1 ! $ move ! (35 ∷ 36 ∷ []) $ free1 ! $ move ! (33 ∷ 34 ∷ []) $ free1 ! $ move ! (31 ∷ 32 ∷ []) $ free1 ! $ move ! (29 ∷ 30 ∷ []) $ free1 ! $ move ! (2 ∷ 28 ∷ []) $ free1 ! $ move ! (1 ∷ 26 ∷ []) $ free1 ! $ move ! (23 ∷ 24 ∷ []) $ free1 ! $ move ! (21 ∷ 22 ∷ []) $ free1 ! $ move ! (19 ∷ 20 ∷ []) $ free1 ! $ move ! (17 ∷ 18 ∷ []) $ free1 ! $ move ! (15 ∷ 16 ∷ []) $ free1 ! $ move ! (13 ∷ 14 ∷ []) $ free1 ! $ move ! (11 ∷ 12 ∷ []) $ free1 ! $ move ! (9 ∷ 10 ∷ []) $ free1 ! $ move ! (7 ∷ 8 ∷ []) $ free1 ! $ free0 ! $
-        keep ! (3 ∷ 2 ∷ 6 ∷ 4 ∷ []) $ by ! (exits (record { machine = zs .0; number = m }) (zs .1 .0) (zs .1 .1 .0) lm lc (LL.owes S.the-type S′.the-laws (record { machine = zs .0; number = m }) (x-is, ((refl, is .1), tt))))))))))))))))))))))))))))))))
+        assigns ! (agg ! (and-then ! (load ! (from ! (stop !)) (look ! 9 refl))
+        (and-then ! (load ! (from ! (stop !)) (look ! 25 refl)) (no-more !)))) (from ! (stop !))
+        (init ! 39 refl (LL.lawful S.the-type S′.the-laws 𝓤 H A W .typed (record { machine = zs .0; number = m }) _
+        (LL.owes S.the-type S′.the-laws (record { machine = zs .0; number = m }) (x-is, ((refl, is .1), tt))) .0)) $
+        returns ! (look ! 39 refl) $ forget ! 1 refl $ forget ! 2 refl $ forget ! 9 refl $ forget ! 11 refl $ forget ! 13 refl $ forget ! 15 refl $
+        forget ! 17 refl $ forget ! 19 refl $ forget ! 21 refl $ forget ! 23 refl $ forget ! 25 refl $ forget ! 29 refl $ forget ! 31 refl $ forget !
+        33 refl $ forget ! 35 refl $ forget ! 37 refl $ forget ! 39 refl $
+        move ! (39 ∷ 40 ∷ []) $ free1 ! $ move ! (37 ∷ 38 ∷ []) $ free1 ! $ move ! (35 ∷ 36 ∷ []) $ free1 ! $ move ! (33 ∷ 34 ∷ []) $ free1 ! $ move
+        ! (31 ∷ 32 ∷ []) $ free1 ! $ move ! (29 ∷ 30 ∷ []) $ free1 ! $ move ! (2 ∷ 28 ∷ []) $ free1 ! $ move ! (1 ∷ 26 ∷ []) $ free1 ! $ move !
+        (23 ∷ 24 ∷ []) $ free1 ! $ move ! (21 ∷ 22 ∷ []) $ free1 ! $ move ! (19 ∷ 20 ∷ []) $ free1 ! $ move ! (17 ∷ 18 ∷ []) $ free1 ! $ move !
+        (15 ∷ 16 ∷ []) $ free1 ! $ move ! (13 ∷ 14 ∷ []) $ free1 ! $ move ! (11 ∷ 12 ∷ []) $ free1 ! $ move ! (9 ∷ 10 ∷ []) $ free1 ! $ move !
+        (7 ∷ 8 ∷ []) $ free1 ! $ free0 ! $
+        keep ! (3 ∷ 2 ∷ 6 ∷ 4 ∷ []) $ by ! (exits (record { machine = zs .0; number = m }) (zs .1 .0) (zs .1 .1 .0) lm lc
+        (LL.owes S.the-type S′.the-laws (record { machine = zs .0; number = m }) (x-is, ((refl, is .1), tt))))))))))))))))))))))))))))))))
 
-module _ {M : Type 1} (𝓤 : URA M) (H : Heap 𝓤) (A : Atoms 𝓤) (W : Given 𝓤 H A) (at-mem : Memory → SProp 𝓤) (run : Routine → Fun 𝓤) (𝓣 : Tables 𝓤 H) (known : Triple 𝓤 (𝓣 .C #v9·single-step) (Step 𝓤 H A at-mem run)) where
+module _ {M : Type 1} (𝓤 : URA M) (H : Heap 𝓤) (A : Atoms 𝓤) (W : Given 𝓤 H A) (at-mem : Memory → SProp 𝓤) (run : Routine → Fun 𝓤) (𝓣 : Tables 𝓤 H)
+    (known : Triple 𝓤 (𝓣 .C #v9·single-step) (Step 𝓤 H A at-mem run)) where
   walks : Walks 𝓤 H A f.ended stayed (WpFn 𝓤 H (𝓣 .C) (𝓣 .Λ) code.function) (f.clauses 𝓤 H A at-mem run)
   walks = walked 𝓤 H A f.ended stayed (f.clauses 𝓤 H A at-mem run) (WpFn 𝓤 H (𝓣 .C) (𝓣 .Λ) code.function)
       (λ κs. (LL.vals T.the-type T′.the-laws, (slice-vals, (slice-vals, (array-vals (LL.vals K.the-type K′.the-laws), (uint-vals w64, tt))))))
-      (λ κs. (LL.tells T.the-type T′.the-laws, (mut-slice-tells (named 0) (κs .0) u8, (mut-slice-tells (named 1) (κs .1 .0) u8, (array-tells K.the-row (LL.vals K.the-type K′.the-laws) (LL.tells K.the-type K′.the-laws) 64, (uint-tells w64, tt))))))
+      (λ κs. (
+        LL.tells T.the-type T′.the-laws,
+        (
+          mut-slice-tells (named 0) (κs .0) u8,
+          (
+            mut-slice-tells (named 1) (κs .1 .0) u8,
+            (
+              array-tells K.the-row (LL.vals K.the-type K′.the-laws) (LL.tells K.the-type K′.the-laws) 64,
+              (uint-tells w64, tt),
+            ),
+          ),
+        ),
+      ))
       (λ κs qs bounds a g are. needs 𝓤 (a .1 .1 .1 .1 .0 ≤ 64) _ (λ few. walk 𝓤 H A W at-mem run (κs .0) (κs .1 .0) (qs .0) (qs .1 .0) (a .0) (a .1 .0) (a .1 .1 .0) (a .1 .1 .1 .0) (a .1 .1 .1 .1 .0)
       (are .0) (are .1 .1 .1 .0) (are .1 .1 .1 .1 .0 .1) few (𝓣 .C) (𝓣 .Λ) (fmOf 𝓤 H (W .laws) 𝓣) known (are .1 .0 .0 .1) (are .1 .1 .0 .0 .1)))
 
   meets : Meets 𝓤 H A f.signature (WpFn 𝓤 H (𝓣 .C) (𝓣 .Λ) code.function) (f.spec 𝓤 H A at-mem run)
-  meets = walk-meets 𝓤 H A f.ended stayed W (goes-none 𝓤 H A W 2 (λ _. T.the-row) yes (λ κs x f. refl), (goes-gave-slice 𝓤 H A W 2 0 tt (plain (λ _. u8)), (goes-gave-slice 𝓤 H A W 2 1 tt (plain (λ _. u8)), (goes-none 𝓤 H A W 2 (λ _. Array K.the-row 64) yes (λ κs x f. refl), (goes-none 𝓤 H A W 2 (λ _. u64) yes (λ κs x f. refl), tt)))))
+  meets = walk-meets 𝓤 H A f.ended stayed W (
+    goes-none 𝓤 H A W 2 (λ _. T.the-row) yes (λ κs x f. refl),
+    (
+      goes-gave-slice 𝓤 H A W 2 0 tt (plain (λ _. u8)),
+      (
+        goes-gave-slice 𝓤 H A W 2 1 tt (plain (λ _. u8)),
+        (goes-none 𝓤 H A W 2 (λ _. Array K.the-row 64) yes (λ κs x f. refl), (goes-none 𝓤 H A W 2 (λ _. u64) yes (λ κs x f. refl), tt)),
+      ),
+    ),
+  )
       (f.clauses 𝓤 H A at-mem run) (WpFn 𝓤 H (𝓣 .C) (𝓣 .Λ) code.function) (WpFn-mono 𝓤 H (W .laws) 𝓣 code.function) walks
 
 pub single-step-spec : {M : Type 1} → stated.statement M

@@ -20,25 +20,29 @@ load4-requires c κs =
 
 same-length-3 : tie.Need-same-length-3
 same-length-3 c =
-    let translate = c .before .before .before .before .before .before .before .before .before .before .before .before .before .before .before .before .before .before .before .before .before .translate in
-    let execute = c .before .before .before .before .execute in
+    let at-execute = c .before .before .before .before in
+    let execute = at-execute .execute in
+    let translate = at-execute .before .before .before .before .before .before .before .before .before .before .before .before .before .before .before .before .before .translate in
     omega (arith, translate .kept .0, execute .kept .1 .1 .1 .1 .0)
 
 same-length-4 : tie.Need-same-length-4
 same-length-4 c =
-    let translate = c .before .before .before .before .before .before .before .before .before .before .before .before .before .before .before .before .before .before .before .before .before .translate in
-    let execute = c .before .before .before .before .execute in
+    let at-execute = c .before .before .before .before in
+    let execute = at-execute .execute in
+    let translate = at-execute .before .before .before .before .before .before .before .before .before .before .before .before .before .before .before .before .before .translate in
     omega (arith, translate .kept .1 .0, execute .kept .1 .1 .1 .1 .1 .0)
 
 returns-2 : tie.Need-returns-2
 returns-2 c =
-    let translate = c .before .before .before .before .before .before .before .before .before .before .before .before .before .before .before .before .before .before .before .before .before .translate in
-    let p = c .before .before .before .before .before .before .before .before .before .before .before .before .before .before .before .p in
-    let load4 = c .before .before .before .before .before .before .before .before .before .before .before .before .load4 in
-    let decode = c .before .before .before .before .before .before .before .before .before .before .before .decode in
-    let sum = c .before .before .before .before .before .before .before .before .before .before .sum in
     let execute = c .before .before .before .before .execute in
-    executes-fetched _ (translate .ensures) (p .given .1) (load4 .ensures) (decode .ensures) (rw (← sum .ensures) (rw (c .before .before .before .before .before .before .before .before .before .regs .ensures) at (execute .ensures)))
+    let regs = c .before .before .before .before .before .before .before .before .before .regs in
+    let sum = c .before .before .before .before .before .before .before .before .before .before .sum in
+    let decode = c .before .before .before .before .before .before .before .before .before .before .before .decode in
+    let load4 = c .before .before .before .before .before .before .before .before .before .before .before .before .load4 in
+    let at-p = c .before .before .before .before .before .before .before .before .before .before .before .before .before .before .before in
+    let p = at-p .p in
+    let translate = at-p .before .before .before .before .before .before .translate in
+    executes-fetched _ (translate .ensures) (p .given .1) (load4 .ensures) (decode .ensures) (rw (← sum .ensures) (rw (regs .ensures) at (execute .ensures)))
 
 pub instruction-spec : {M : Type 1} → statement M
 instruction-spec =

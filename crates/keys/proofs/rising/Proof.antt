@@ -23,7 +23,8 @@ use ghost.Atoms.{Atoms, sem}
 use contract.Monad.{Fun, fact}
 use contract.Running.{givenOf, tables, tablesOf}
 use types.Kit.{Given, Item, ‵, raw, some, later, atRet, _⊛_, ⋆, _$_, _∵_, !, qed, by, move, keep, use0, use1, drop, split, join, pick, rewrite, fsplit, fjoin, suffices, frame, await, done}
-use types.Run.{look, init, store, forget, stop, hop, fld, from, load, lit, true-lit, and-then, no-more, of-opd, bin, assigns, assigns-last, land, first, blocks, stays, leaves-loop, exec, returns, enter, alloc1, alloc0, params1, pass1, pass0, free1, free0, again, loops}
+use types.Run.{look, init, store, forget, stop, hop, fld, from, load, lit, true-lit, and-then, no-more, of-opd, bin, assigns, assigns-last, land}
+use types.Run.{first, blocks, stays, leaves-loop, exec, returns, enter, alloc1, alloc0, params1, pass1, pass0, free1, free0, again, loops}
 use types.Part.{whole, sub, look-in}
 use types.Share.{arr-parts}
 use sound.WpLaws.{fmOf, WpFn-mono}
@@ -139,7 +140,8 @@ module _ {M : Type 1} (𝓤 : URA M) (H : Heap 𝓤) (A : Atoms 𝓤) (W : Given
     At t = ‵ (row T.the-row q′ ys b o) ∷ ‵ (fobor κ q (arr-parts (shares T.the-row) (length ys) .part q′ ys b o)) ∷ ‵ (fshr-bor κ (λ s. arr-parts (shares T.the-row) (length ys) .part s ys b o))
         ∷ ‵ (fres γ (codedHoleys T.the-row .code (heres T.the-row ys))) ∷ ‵ (at-slice T.the-row (x .0) (at .0))
         ∷ ‵ (froom tyPtr l₈ 0) ∷ ‵ (fdies tyPtr l₈) ∷ ‵ (froom tyBool l₇ 0) ∷ ‵ (fdies tyBool l₇) ∷ ‵ (froom word l₆ 0) ∷ ‵ (fdies word l₆) ∷ ‵ (froom word l₅ 0) ∷ ‵ (fdies word l₅)
-        ∷ ‵ (fat fullShare word l₄ 0 (vint w64 (t .i))) ∷ ‵ (fdies word l₄) ∷ ‵ (fat fullShare word l₃ 0 (vint w64 (t .last))) ∷ ‵ (fdies word l₃) ∷ ‵ (fat fullShare tyBool l₂ 0 (vbool (t .ok))) ∷ ‵ (fdies tyBool l₂)
+        ∷ ‵ (fat fullShare word l₄ 0 (vint w64 (t .i))) ∷ ‵ (fdies word l₄) ∷ ‵ (fat fullShare word l₃ 0 (vint w64 (t .last))) ∷ ‵ (fdies word l₃) ∷
+        ‵ (fat fullShare tyBool l₂ 0 (vbool (t .ok))) ∷ ‵ (fdies tyBool l₂)
         ∷ ‵ (fat fullShare slice l₁ 0 (sliceVal (b, o) (length ys))) ∷ ‵ (fdies slice l₁) ∷ ‵ (froom tyBool l₀ 0) ∷ ‵ (fdies tyBool l₀) ∷ []
 
   -- the body, from its entry to its end
@@ -170,18 +172,26 @@ module _ {M : Type 1} (𝓤 : URA M) (H : Heap 𝓤) (A : Atoms 𝓤) (W : Given
       assigns ! (bin ! (load ! (from ! (fld ! refl (stop !))) (look-in ! 19 (sub ! 0 refl (whole !)))) (load ! (from ! (stop !)) (look ! 9 refl)) tt) (from ! (stop !)) (init ! 5 refl (tt, tt)) $
       rewrite ! 5 (λ (p : ℕ). ‵ (fat fullShare tyPtr l₈ 0 (vptr b p))) (sym (place-is 16 o (t .i))) refl $
       elem-out ! T.the-row (Is T.the-row) (shows 𝓤 H A T.the-row) (LL.vals T.the-type T′.the-laws) (LL.tells T.the-type T′.the-laws) q′ ys (t .i) noKey b o (less t e) (λ g.
-      assigns ! (of-opd ! (load ! (from ! (hop ! (look ! 7 refl) (fld ! refl (stop !)))) (look-in ! 0 (sub ! 0 refl (whole !))))) (from ! (stop !)) (init ! 13 refl (tt, record { fits = step-fits (t .i) g })) $
+      assigns ! (of-opd ! (load ! (from ! (hop ! (look ! 7 refl) (fld ! refl (stop !)))) (look-in ! 0 (sub ! 0 refl (whole !))))) (from ! (stop !))
+      (init ! 13 refl (tt, record { fits = step-fits (t .i) g })) $
       elem-back ! T.the-row q′ ys (t .i) noKey (LL.vals T.the-type T′.the-laws (elem (t .i))) b o (less t e) $
       -- ok = rises(ok, last, step)
       use0 W (raw (Rises 𝓤 H A mem run .pre (to-rises (t .ok) (t .last) (elem (t .i) .step)))) (goes-rises (t .ok) (t .last) (elem (t .i) .step) (t .last-fits) (step-fits (t .i) g)) $
-      calls-at ! (fmOf 𝓤 H (W .laws) 𝓣) (Rises 𝓤 H A mem run) known (to-rises (t .ok) (t .last) (elem (t .i) .step)) (and-then ! (load ! (from ! (stop !)) (look ! 18 refl)) (and-then ! (load ! (from ! (stop !)) (look ! 16 refl)) (and-then ! (load ! (from ! (stop !)) (look ! 12 refl)) (no-more !)))) (λ v.
-      use1 W (later (some (λ (r : Bool). (‵ ftrue ⊛ ‵ (Boolean .own r (v ∷ []))) ⊛ raw (ensured 𝓤 H A rises.ended (rises.clauses 𝓤 H A mem run) tt (t .ok, (t .last, (elem (t .i) .step, tt))) tt r)))) (id⊢ 𝓤 _) $ await ! tt $ pick ! (λ r.
-      split ! $ move ! (1 ∷ []) $ use1 W (raw (fact 𝓤 (r ≡ (t .ok && leb (t .last) (elem (t .i) .step))))) (rises-of 𝓤 H A mem run (t .ok) (t .last) (elem (t .i) .step) r) $ heard ! (r ≡ (t .ok && leb (t .last) (elem (t .i) .step))) (λ said. split ! $ drop ! $
+      calls-at ! (fmOf 𝓤 H (W .laws) 𝓣) (Rises 𝓤 H A mem run) known (to-rises (t .ok) (t .last) (elem (t .i) .step))
+      (and-then ! (load ! (from ! (stop !)) (look ! 18 refl)) (and-then ! (load ! (from ! (stop !)) (look ! 16 refl))
+      (and-then ! (load ! (from ! (stop !)) (look ! 12 refl)) (no-more !)))) (λ v.
+      use1 W (later (some (λ (r : Bool). (‵ ftrue ⊛ ‵ (Boolean .own r (v ∷ []))) ⊛ raw
+      (ensured 𝓤 H A rises.ended (rises.clauses 𝓤 H A mem run) tt (t .ok, (t .last, (elem (t .i) .step, tt))) tt r)))) (id⊢ 𝓤 _) $ await ! tt $ pick
+      ! (λ r.
+      split ! $ move ! (1 ∷ []) $ use1 W (raw (fact 𝓤 (r ≡ (t .ok && leb (t .last) (elem (t .i) .step)))))
+      (rises-of 𝓤 H A mem run (t .ok) (t .last) (elem (t .i) .step) r) $ heard ! (r ≡ (t .ok && leb (t .last) (elem (t .i) .step)))
+      (λ said. split ! $ drop ! $
       peeks ! Boolean (Is Boolean) (shows 𝓤 H A Boolean) r (v ∷ []) (λ is.
       land ! (from ! (stop !)) (store ! 18 refl (bool-lawful 𝓤 H A W .typed r _ is .0)) $ drop ! $ rewrite ! 17 (λ (u : Val). ‵ (fat fullShare tyBool l₂ 0 u)) (ap only is) refl $
       -- last = step; i += 1
       assigns ! (of-opd ! (load ! (from ! (stop !)) (look ! 11 refl))) (from ! (stop !)) (store ! 15 refl (tt, record { fits = step-fits (t .i) g })) $
-      assigns-last ! (bin ! (load ! (from ! (stop !)) (look ! 13 refl)) (lit ! tt) (record { fits = next-fits t (less t e) })) (from ! (stop !)) (store ! 13 refl (tt, record { fits = next-fits t (less t e) })) $
+      assigns-last ! (bin ! (load ! (from ! (stop !)) (look ! 13 refl)) (lit ! tt) (record { fits = next-fits t (less t e) })) (from ! (stop !))
+      (store ! 13 refl (tt, record { fits = next-fits t (less t e) })) $
       forget ! 5 refl $ forget ! 7 refl $ forget ! 9 refl $ forget ! 11 refl $
       again ! Nearer (At q′ l₀ l₁ l₂ l₃ l₄ l₅ l₆ l₇ l₈) t (next t (less t e) r said (step-fits (t .i) g)) (nearer t (less t e))))))))
       (λ e. rewrite ! 7 (λ (c : Bool). ‵ (fat fullShare tyBool l₇ 0 (vbool c))) e refl $ leaves-loop ! (load ! (from ! (stop !)) (look ! 7 refl)) $ exec ! (𝓣 .C) (𝓣 .Λ) _ body.t-5 (atRet _ Post) $
@@ -189,8 +199,11 @@ module _ {M : Type 1} (𝓤 : URA M) (H : Heap 𝓤) (A : Atoms 𝓤) (W : Given
       assigns ! (of-opd ! (load ! (from ! (stop !)) (look ! 17 refl))) (from ! (stop !)) (init ! 21 refl (tt, tt)) $ shuts-slice ! tt T.the-row q′ ys b o $
       -- [the token; the fractured borrow; res; the slice's fact; _8; …; .. ; _0; …]
       returns ! (look ! 20 refl) $ forget ! 6 refl $ forget ! 8 refl $ forget ! 12 refl $ forget ! 14 refl $ forget ! 16 refl $ forget ! 18 refl $ forget ! 20 refl $
-      move ! (20 ∷ 21 ∷ []) $ free1 ! $ move ! (18 ∷ 19 ∷ []) $ free1 ! $ move ! (16 ∷ 17 ∷ []) $ free1 ! $ move ! (14 ∷ 15 ∷ []) $ free1 ! $ move ! (12 ∷ 13 ∷ []) $ free1 ! $ move ! (10 ∷ 11 ∷ []) $ free1 ! $ move ! (8 ∷ 9 ∷ []) $ free1 ! $ move ! (6 ∷ 7 ∷ []) $ free1 ! $ move ! (4 ∷ 5 ∷ []) $ free1 ! $ free0 ! $
-      move ! (2 ∷ 1 ∷ []) $ fjoin ! $ move ! (2 ∷ 0 ∷ []) $ fjoin ! $ keep ! (1 ∷ 0 ∷ []) $ by ! (exits (t .ok) (sym (rise-end ys (t .i) (t .ok) (t .last) (nltb→le (t .i) (length ys) (is-false e))) ∙ t .same))))
+      move ! (20 ∷ 21 ∷ []) $ free1 ! $ move ! (18 ∷ 19 ∷ []) $ free1 ! $ move ! (16 ∷ 17 ∷ []) $ free1 ! $ move ! (14 ∷ 15 ∷ []) $ free1 ! $ move !
+      (12 ∷ 13 ∷ []) $ free1 ! $ move ! (10 ∷ 11 ∷ []) $ free1 ! $ move ! (8 ∷ 9 ∷ []) $ free1 ! $ move ! (6 ∷ 7 ∷ []) $ free1 ! $ move !
+      (4 ∷ 5 ∷ []) $ free1 ! $ free0 ! $
+      move ! (2 ∷ 1 ∷ []) $ fjoin ! $ move ! (2 ∷ 0 ∷ []) $ fjoin ! $ keep ! (1 ∷ 0 ∷ []) $ by !
+      (exits (t .ok) (sym (rise-end ys (t .i) (t .ok) (t .last) (nltb→le (t .i) (length ys) (is-false e))) ∙ t .same))))
       (record { ok = true; last = 0; i = 0; last-fits = lit< tt; same = refl })))))))))))
     where
       less : (t : Turn) → ltb (t .i) (length ys) ≡ true → t .i < length ys
@@ -220,13 +233,15 @@ module _ {M : Type 1} (𝓤 : URA M) (H : Heap 𝓤) (A : Atoms 𝓤) (W : Given
         same = (λ j. said j && keysRise (elem (t .i) .step) (from-the (sym (one-more (t .i)) j) ys)) ∙ sym (rise-on ys (t .i) (t .ok) (t .last) l) ∙ t .same;
       }
 
-module _ {M : Type 1} (𝓤 : URA M) (H : Heap 𝓤) (A : Atoms 𝓤) (W : Given 𝓤 H A) (mem : Memory → SProp 𝓤) (run : Routine → Fun 𝓤) (𝓣 : Tables 𝓤 H) (known : Triple 𝓤 (𝓣 .C #keys·rises) (Rises 𝓤 H A mem run)) where
+module _ {M : Type 1} (𝓤 : URA M) (H : Heap 𝓤) (A : Atoms 𝓤) (W : Given 𝓤 H A) (mem : Memory → SProp 𝓤) (run : Routine → Fun 𝓤) (𝓣 : Tables 𝓤 H)
+    (known : Triple 𝓤 (𝓣 .C #keys·rises) (Rises 𝓤 H A mem run)) where
   walks : Walks 𝓤 H A f.ended stayed (WpFn 𝓤 H (𝓣 .C) (𝓣 .Λ) code.function) (f.clauses 𝓤 H A mem run)
   walks = walked 𝓤 H A f.ended stayed (f.clauses 𝓤 H A mem run) (WpFn 𝓤 H (𝓣 .C) (𝓣 .Λ) code.function) (λ κs. (slice-vals, tt)) (λ κs. (shr-slice-tells (named 0) (κs .0) T.the-row, tt))
       (λ κs qs bounds a g are. via 𝓤 _ (fst∗ 𝓤 _ (emp 𝓤)) (walk 𝓤 H A W mem run (κs .0) (qs .0) (a .0 .ptr .0) (a .0 .ptr .1) (a .0 .name) (a .0 .now) 𝓣 known (are .0 .0 .1)))
 
   meets : Meets 𝓤 H A f.signature (WpFn 𝓤 H (𝓣 .C) (𝓣 .Λ) code.function) (f.spec 𝓤 H A mem run)
-  meets = walk-meets 𝓤 H A f.ended stayed W (goes-none-slice 𝓤 H A W 1 (0 ∷ []) tt (plain (λ _. T.the-row)) yes, tt) (f.clauses 𝓤 H A mem run) (WpFn 𝓤 H (𝓣 .C) (𝓣 .Λ) code.function) (WpFn-mono 𝓤 H (W .laws) 𝓣 code.function) walks
+  meets = walk-meets 𝓤 H A f.ended stayed W (goes-none-slice 𝓤 H A W 1 (0 ∷ []) tt (plain (λ _. T.the-row)) yes, tt) (f.clauses 𝓤 H A mem run)
+      (WpFn 𝓤 H (𝓣 .C) (𝓣 .Λ) code.function) (WpFn-mono 𝓤 H (W .laws) 𝓣 code.function) walks
 
 pub rising-spec : {M : Type 1} → stated.statement M
 unfolding code.routine tablesOf

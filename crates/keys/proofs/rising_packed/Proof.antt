@@ -18,27 +18,11 @@ Inv-loop keys count ok₀ last₀ key₀ ok last key = (ok && keysRise last (dro
 abbrev μ-loop : tie.MeasureT-loop
 μ-loop keys count ok₀ last₀ key₀ ok last key = count - key
 
-loop-holds : tie.Need-loop-holds Inv-loop μ-loop
-loop-holds c = refl
-
-mul-load8 : tie.Need-mul-load8 Inv-loop μ-loop
-mul-load8 c = search needs
-
-load8-requires : tie.Need-load8-requires Inv-loop μ-loop
-load8-requires c κs = search needs
-
-rises-requires : tie.Need-rises-requires Inv-loop μ-loop
-rises-requires c κs = search needs
-
-add-key : tie.Need-add-key Inv-loop μ-loop
-add-key c = search needs
-
-loop-less : tie.Need-loop-less Inv-loop μ-loop
-loop-less c = search needs
-
 loop-again : tie.Need-loop-again Inv-loop μ-loop
 unfolding keyAt
-loop-again c = packed-on _ _ (c .before .before .before .loop .ok) (c .before .before .before .loop .last) (omega arith) (c .before .load8 .ensures) (c .rises .ensures) (c .before .before .before .loop .inv)
+loop-again c =
+    let loop = c .before .before .before .loop in
+    packed-on _ _ (loop .ok) (loop .last) (omega arith) (c .before .load8 .ensures) (c .rises .ensures) (loop .inv)
 
 returns : tie.Need-returns Inv-loop μ-loop
 returns c = packed-end _ _ _ (c .loop-test .left) (c .before .loop .inv)
@@ -49,11 +33,11 @@ rising-packed-spec =
     (tie.spec
     Inv-loop
     μ-loop
-    loop-holds
-    mul-load8
-    load8-requires
-    rises-requires
-    add-key
-    loop-less
+    (λ c. refl)
+    (λ c. search needs)
+    (λ c κs. search needs)
+    (λ c κs. search needs)
+    (λ c. search needs)
+    (λ c. search needs)
     loop-again
     returns)

@@ -17,18 +17,6 @@ abbrev μ-loop : tie.MeasureT-loop
 loop-holds : tie.Need-loop-holds Inv-loop μ-loop
 loop-holds c = record { same = refl; size = refl; within = omega arith }
 
-shared-slice-read-mem : tie.Need-shared-slice-read-mem Inv-loop μ-loop
-shared-slice-read-mem c = search needs
-
-slice-write-mem : tie.Need-slice-write-mem Inv-loop μ-loop
-slice-write-mem c = omega arith
-
-add-i : tie.Need-add-i Inv-loop μ-loop
-add-i c = search needs
-
-loop-less : tie.Need-loop-less Inv-loop μ-loop
-loop-less c = search needs
-
 loop-again : tie.Need-loop-again Inv-loop μ-loop
 loop-again c = front-on (omega arith) (omega arith) refl (c .before .before .loop .inv)
 
@@ -45,10 +33,10 @@ copy-body-spec =
     Inv-loop
     μ-loop
     loop-holds
-    shared-slice-read-mem
-    slice-write-mem
-    add-i
-    loop-less
+    (λ c. search needs)
+    (λ c. omega arith)
+    (λ c. search needs)
+    (λ c. search needs)
     loop-again
     same-length
     returns)

@@ -17,15 +17,6 @@ abbrev μ-loop : tie.MeasureT-loop
 loop-holds : tie.Need-loop-holds Inv-loop μ-loop
 loop-holds c = (zeroed-start _ _ (c .pre), omega arith)
 
-slice-write-mem : tie.Need-slice-write-mem Inv-loop μ-loop
-slice-write-mem c = omega arith
-
-add-at : tie.Need-add-at Inv-loop μ-loop
-add-at c = search needs
-
-loop-less : tie.Need-loop-less Inv-loop μ-loop
-loop-less c = omega arith
-
 loop-again : tie.Need-loop-again Inv-loop μ-loop
 loop-again c = (zeroed-on _ _ (c .before .before .pre) (c .before .loop .inv .1) (omega arith) (c .before .loop .inv .0), omega arith)
 
@@ -42,9 +33,9 @@ zero-from-spec =
     Inv-loop
     μ-loop
     loop-holds
-    slice-write-mem
-    add-at
-    loop-less
+    (λ c. omega arith)
+    (λ c. search needs)
+    (λ c. omega arith)
     loop-again
     same-length
     returns)

@@ -57,46 +57,53 @@ settle-requires c κs =
 
 sub-t39 : tie.Need-sub-t39
 sub-t39 c =
-    let instructions = c .before .before .before .before .before .before .before .before .before .before .before .before .before .before .before .before .before .before .before .before .before .instructions in
+    let earlier = c .before .before .before .before .before .before .before .before .before .before .before .before .before .before .before .before .before in
+    let instructions = earlier .before .before .before .before .instructions in
     instructions .ensures .later
 
 sub-t40 : tie.Need-sub-t40
 sub-t40 c =
-    let instructions = c .before .before .before .before .before .before .before .before .before .before .before .before .before .before .before .before .before .before .before .before .before .instructions in
-    let met = c .before .before .before .before .before .before .before .before .before .before .before .before .before .before .before .match in
-    let steps = c .before .before .before .before .before .before .before .before .before .before .before .before .before .before .before .before .before .before .before .before .before .before .before .before .before .before .before .steps in
+    let at-met = c .before .before .before .before .before .before .before .before .before .before .before .before .before .before .before in
+    let met = at-met .match in
+    let instructions = at-met .before .before .before .before .before .before .instructions in
+    let steps = at-met .before .before .before .before .before .before .before .before .before .before .before .before .steps in
     omega (arith, instructions .ensures .early (not-ok _ (met .keys2)) .0, few _ _ _ (steps .ensures))
 
 sub-t41 : tie.Need-sub-t41
 sub-t41 c =
-    let instructions = c .before .before .before .before .before .before .before .before .before .before .before .before .before .before .before .before .before .before .before .before .before .instructions in
-    let met = c .before .before .before .before .before .before .before .before .before .before .before .before .before .before .before .match in
-    let steps = c .before .before .before .before .before .before .before .before .before .before .before .before .before .before .before .before .before .before .before .before .before .before .before .before .before .before .before .steps in
+    let at-met = c .before .before .before .before .before .before .before .before .before .before .before .before .before .before .before in
+    let met = at-met .match in
+    let instructions = at-met .before .before .before .before .before .before .instructions in
+    let steps = at-met .before .before .before .before .before .before .before .before .before .before .before .before .steps in
     omega (arith, instructions .ensures .early (not-ok _ (met .keys2)) .0, few _ _ _ (steps .ensures), instructions .ensures .later)
 
 same-length-4 : tie.Need-same-length-4
 same-length-4 c =
-    let instructions = c .before .before .before .before .before .before .before .before .before .before .before .before .before .before .before .before .before .before .before .before .before .instructions in
-    let settle = c .before .before .before .before .before .before .before .before .settle in
+    let at-settle = c .before .before .before .before .before .before .before .before in
+    let settle = at-settle .settle in
+    let instructions = at-settle .before .before .before .before .before .before .before .before .before .before .before .before .before .instructions in
     omega (arith, instructions .kept .1 .1 .1 .1 .0, settle .kept .1 .1 .0)
 
 same-length-6 : tie.Need-same-length-6
 same-length-6 c =
-    let instructions = c .before .before .before .before .before .before .before .before .before .before .before .before .before .before .before .before .before .before .before .before .before .instructions in
-    let settle = c .before .before .before .before .before .before .before .before .settle in
+    let at-settle = c .before .before .before .before .before .before .before .before in
+    let settle = at-settle .settle in
+    let instructions = at-settle .before .before .before .before .before .before .before .before .before .before .before .before .before .instructions in
     omega (arith, instructions .kept .1 .1 .1 .1 .1 .0, settle .kept .1 .1 .1 .1 .0)
 
 returns-2 : tie.Need-returns-2
 returns-2 c =
-    let after = c .before .before .before .before .before .before .before .before .before .before .before .before .before .after in
-    let given = c .before .before .before .before .before .before .before .before .before .before .before .before .before .before .before .before .before .before .before .before .before .before .before .before .before .before .before .before .before .before .before .args in
-    let raiseCount = c .before .before .before .before .before .before .before .before .before .before .before .before .before .before .raise-count in
-    let pre = c .before .before .before .before .before .before .before .before .before .before .before .before .before .before .before .before .before .before .before .before .before .before .before .before .before .before .before .before .before .before .before .pre in
-    let steps = c .before .before .before .before .before .before .before .before .before .before .before .before .before .before .before .before .before .before .before .before .before .before .before .before .before .before .before .steps in
-    let if1 = c .before .before .before .before .before .before .before .before .before .before .before .before .before .before .before .before .before .before .before .before .before .before .before .before .before .before .if1 in
-    let instructions = c .before .before .before .before .before .before .before .before .before .before .before .before .before .before .before .before .before .before .before .before .before .instructions in
-    let met = c .before .before .before .before .before .before .before .before .before .before .before .before .before .before .before .match in
     let settle = c .before .before .before .before .before .before .before .before .settle in
+    let after = c .before .before .before .before .before .before .before .before .before .before .before .before .before .after in
+    let raiseCount = c .before .before .before .before .before .before .before .before .before .before .before .before .before .before .raise-count in
+    let at-met = c .before .before .before .before .before .before .before .before .before .before .before .before .before .before .before in
+    let met = at-met .match in
+    let instructions = at-met .before .before .before .before .before .before .instructions in
+    let if1 = at-met .before .before .before .before .before .before .before .before .before .before .before .if1 in
+    let at-steps = at-met .before .before .before .before .before .before .before .before .before .before .before .before in
+    let steps = at-steps .steps in
+    let given = at-steps .before .before .before .before .args in
+    let pre = at-steps .before .before .before .before .pre in
     let quiet = after .ensures ∙ ap (λ (q : Regs). afterQuiet (given .c) q) (raiseCount .ensures) in
     advance-early _ _ _ (pre .0) (steps .ensures) (omega (arith, if1 .left)) (instructions .ensures) (not-ok _ (met .keys2)) quiet
     (instructions .kept .1 .1 .1 .1 .0) (settle .ensures) (settle .kept .1 .1 .0)

@@ -41,12 +41,14 @@ settle-requires c κs =
 
 returns-3 : tie.Need-returns-3
 returns-3 c =
-    let due-trap = c .before .before .before .before .before .before .before .before .before .before .before .before .before .before .before .before .before .before .before .before .before .before .before .before .due-trap in
-    let tick = c .before .before .before .before .before .before .before .before .before .before .before .before .before .before .before .before .before .before .before .before .before .before .before .tick in
-    let enum-told = c .before .before .before .before .before .before .before .before .before .before .before .before .before .before .before .before .before .before .before .before .before .enum-told in
-    let if1 = c .before .before .before .before .before .before .before .before .before .before .before .before .before .before .before .before .before .before .before .before .if1 in
-    let instructions = c .before .before .before .before .before .before .before .before .before .before .before .before .before .before .before .instructions in
-    let settle = c .before .before .before .before .before .before .settle in
+    let at-settle = c .before .before .before .before .before .before in
+    let settle = at-settle .settle in
+    let instructions = at-settle .before .before .before .before .before .before .before .before .before .instructions in
+    let at-if1 = at-settle .before .before .before .before .before .before .before .before .before .before .before .before .before .before in
+    let if1 = at-if1 .if1 in
+    let enum-told = at-if1 .before .enum-told in
+    let tick = at-if1 .before .before .before .tick in
+    let due-trap = at-if1 .before .before .before .before .due-trap in
     step-executes _ _ (due-trap .ensures) (tick .ensures) (enum-told .given .1) (if1 .left) (instructions .kept .1 .1 .1 .1 .0) (instructions .ensures) (settle .ensures)
 
 pub step-spec : {M : Type 1} → statement M

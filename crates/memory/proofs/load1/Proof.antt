@@ -5,12 +5,9 @@ use Rattle.memory.specs.Memory.{loadN}
 use Rattle.memory.proofs.load1.Statement.{statement}
 use Rattle.memory.proofs.load1.Tie as tie
 
-shared-slice-read-result : tie.Need-shared-slice-read-result
-shared-slice-read-result c = search needs
-
 returns : tie.Need-returns
 unfolding loadN
 returns c = omega arith
 
 pub load1-spec : {M : Type 1} → statement M
-load1-spec = tie.close (tie.spec shared-slice-read-result returns)
+load1-spec = tie.close (tie.spec (λ c. search needs) returns)

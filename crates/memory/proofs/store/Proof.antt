@@ -4,38 +4,20 @@ use Rattle.memory.proofs.Sizes.{size-fits, size-store}
 use Rattle.memory.proofs.store.Statement.{statement}
 use Rattle.memory.proofs.store.Tie as tie
 
-enum-told : tie.Need-enum-told
-enum-told c = search needs
-
 store4-requires : tie.Need-store4-requires
 store4-requires c κs = size-fits (c .before .enum-told .given .1) _ _ (c .before .before .before .before .pre)
-
-enum-told-2 : tie.Need-enum-told-2
-enum-told-2 c = search needs
 
 store2-requires : tie.Need-store2-requires
 store2-requires c κs = size-fits (c .before .enum-told2 .given .1) _ _ (c .before .before .before .before .pre)
 
-enum-told-3 : tie.Need-enum-told-3
-enum-told-3 c = search needs
-
 store1-requires : tie.Need-store1-requires
 store1-requires c κs = size-fits (c .before .enum-told3 .given .1) _ _ (c .before .before .before .before .pre)
-
-same-length : tie.Need-same-length
-same-length c = search needs
 
 returns : tie.Need-returns
 returns c = size-store (c .before .before .before .before .enum-told .given .1) _ _ _ (c .before .before .store4 .ensures)
 
-same-length-2 : tie.Need-same-length-2
-same-length-2 c = search needs
-
 returns-2 : tie.Need-returns-2
 returns-2 c = size-store (c .before .before .before .before .enum-told2 .given .1) _ _ _ (c .before .before .store2 .ensures)
-
-same-length-3 : tie.Need-same-length-3
-same-length-3 c = search needs
 
 returns-3 : tie.Need-returns-3
 returns-3 c = size-store (c .before .before .before .before .enum-told3 .given .1) _ _ _ (c .before .before .store1 .ensures)
@@ -44,15 +26,15 @@ pub store-spec : {M : Type 1} → statement M
 store-spec =
     tie.close
     (tie.spec
-    enum-told
+    (λ c. search needs)
     store4-requires
-    enum-told-2
+    (λ c. search needs)
     store2-requires
-    enum-told-3
+    (λ c. search needs)
     store1-requires
-    same-length
+    (λ c. search needs)
     returns
-    same-length-2
+    (λ c. search needs)
     returns-2
-    same-length-3
+    (λ c. search needs)
     returns-3)

@@ -6,21 +6,6 @@ use Rattle.mmu.proofs.Ways.{aligned}
 use Rattle.mmu.proofs.align.Statement.{statement}
 use Rattle.mmu.proofs.align.Tie as tie
 
-enum-told : tie.Need-enum-told
-enum-told c = search needs
-
-mul-result : tie.Need-mul-result
-mul-result c = search needs
-
-enum-told-2 : tie.Need-enum-told-2
-enum-told-2 c = search needs
-
-mul-result-2 : tie.Need-mul-result-2
-mul-result-2 c = search needs
-
-enum-told-3 : tie.Need-enum-told-3
-enum-told-3 c = search needs
-
 returns : tie.Need-returns
 returns c = aligned _ _ (c .enum-told .given .1) refl
 
@@ -34,11 +19,11 @@ pub align-spec : {M : Type 1} → statement M
 align-spec =
     tie.close
     (tie.spec
-    enum-told
-    mul-result
-    enum-told-2
-    mul-result-2
-    enum-told-3
+    (λ c. search needs)
+    (λ c. search needs)
+    (λ c. search needs)
+    (λ c. search needs)
+    (λ c. search needs)
     returns
     returns-2
     returns-3)

@@ -5,12 +5,6 @@ use Rattle.mmu.proofs.Ways.{frame-small, kept-at, refill-mapped, refill
 use Rattle.mmu.proofs.refill.Statement.{statement}
 use Rattle.mmu.proofs.refill.Tie as tie
 
-walk-requires : tie.Need-walk-requires
-walk-requires c κs = search needs
-
-enum-known-found : tie.Need-enum-known-found
-enum-known-found c = search needs
-
 pack-requires : tie.Need-pack-requires
 pack-requires c κs =
     frame-small _ _ _ _ _ (c .before .before .before .before .before .before .before .before .before .before .pre .0)
@@ -22,21 +16,6 @@ keep-requires c κs = (
   kept-at _ (c .pack .result) (c .pack .ensures) (c .before .before .before .before .before .before .before .before .before .before .before .pre .1),
 )
 
-in-frame-requires : tie.Need-in-frame-requires
-in-frame-requires c κs = search needs
-
-enum-known-found-2 : tie.Need-enum-known-found-2
-enum-known-found-2 c = search needs
-
-denied-requires : tie.Need-denied-requires
-denied-requires c κs = search needs
-
-same-length : tie.Need-same-length
-same-length c = search needs
-
-same-length-2 : tie.Need-same-length-2
-same-length-2 c = search needs
-
 returns : tie.Need-returns
 returns c =
     refill-mapped _ _ _ _
@@ -44,9 +23,6 @@ returns c =
     (omega arith) (c .before .before .before .before .before .before .before .before .before .before .before .walk .ensures)
     (c .before .before .before .before .pack .result) (c .before .before .before .before .before .before .before .found .given .1)
     (c .before .before .before .before .pack .ensures) (c .before .before .before .keep .ensures) (c .in-frame .ensures)
-
-same-length-3 : tie.Need-same-length-3
-same-length-3 c = search needs
 
 returns-2 : tie.Need-returns-2
 returns-2 c =
@@ -57,15 +33,15 @@ pub refill-spec : {M : Type 1} → statement M
 refill-spec =
     tie.close
     (tie.spec
-    walk-requires
-    enum-known-found
+    (λ c κs. search needs)
+    (λ c. search needs)
     pack-requires
     keep-requires
-    in-frame-requires
-    enum-known-found-2
-    denied-requires
-    same-length
-    same-length-2
+    (λ c κs. search needs)
+    (λ c. search needs)
+    (λ c κs. search needs)
+    (λ c. search needs)
+    (λ c. search needs)
     returns
-    same-length-3
+    (λ c. search needs)
     returns-2)

@@ -5,12 +5,9 @@ use Rattle.paging.specs.Buffer.{entryOk}
 use Rattle.refusals.proofs.entry_ok.Statement.{statement}
 use Rattle.refusals.proofs.entry_ok.Tie as tie
 
-cast-result : tie.Need-cast-result
-cast-result c = search needs
-
 returns : tie.Need-returns
 unfolding entryOk
 returns c = refl
 
 pub entry-ok-spec : {M : Type 1} → statement M
-entry-ok-spec = tie.close (tie.spec cast-result returns)
+entry-ok-spec = tie.close (tie.spec (λ c. search needs) returns)

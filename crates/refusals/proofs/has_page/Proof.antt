@@ -14,26 +14,11 @@ Inv-loop n from page slots i₀ i = has entryPage page (drop from (take n slots)
 abbrev μ-loop : tie.MeasureT-loop
 μ-loop n from page slots i₀ i = n - i
 
-loop-holds : tie.Need-loop-holds Inv-loop μ-loop
-loop-holds c = refl
-
-mul-e : tie.Need-mul-e Inv-loop μ-loop
-mul-e c = search needs
-
-array-copy-out-e : tie.Need-array-copy-out-e Inv-loop μ-loop
-array-copy-out-e c = search needs
-
 returns : tie.Need-returns Inv-loop μ-loop
 returns c =
     sym
     (page-here _ _ (c .before .before .before .before .before .good .0 .1 .0 .1) (c .before .before .before .before .before .pre) _ _
     (c .before .before .before .before .loop .inv) (c .before .before .before .loop-test .taken) (c .if1 .taken))
-
-add-i : tie.Need-add-i Inv-loop μ-loop
-add-i c = search needs
-
-loop-less : tie.Need-loop-less Inv-loop μ-loop
-loop-less c = search needs
 
 loop-again : tie.Need-loop-again Inv-loop μ-loop
 loop-again c =
@@ -49,11 +34,11 @@ has-page-spec =
     (tie.spec
     Inv-loop
     μ-loop
-    loop-holds
-    mul-e
-    array-copy-out-e
+    (λ c. refl)
+    (λ c. search needs)
+    (λ c. search needs)
     returns
-    add-i
-    loop-less
+    (λ c. search needs)
+    (λ c. search needs)
     loop-again
     returns-2)

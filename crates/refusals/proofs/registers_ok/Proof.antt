@@ -5,12 +5,9 @@ use borrow.Author.Needs.{needs}
 use Rattle.refusals.proofs.registers_ok.Statement.{statement}
 use Rattle.refusals.proofs.registers_ok.Tie as tie
 
-cast-result : tie.Need-cast-result
-cast-result c = search needs
-
 returns : tie.Need-returns
 unfolding registersOk
 returns c = refl
 
 pub registers-ok-spec : {M : Type 1} → statement M
-registers-ok-spec = tie.close (tie.spec cast-result returns)
+registers-ok-spec = tie.close (tie.spec (λ c. search needs) returns)

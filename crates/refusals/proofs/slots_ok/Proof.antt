@@ -22,38 +22,22 @@ returns c = slots-many _ _ _ (omega (arith, c .if1 .taken))
 loop-holds : tie.Need-loop-holds Inv-loop μ-loop
 loop-holds c = (sym (length-map (c .before .args .t1 .entries) _) ∙ c .before .good .0 .1 .1 .1 .0 .1 .0 .1, (search needs, none-passed _ _ _ _ _ _ refl))
 
-sub-i : tie.Need-sub-i Inv-loop μ-loop
-sub-i c = search needs
-
-mul-e : tie.Need-mul-e Inv-loop μ-loop
-mul-e c = search needs
-
 element-copy-out-e : tie.Need-element-copy-out-e Inv-loop μ-loop
 element-copy-out-e c = omega (arith, c .before .loop .inv .1 .0, c .before .loop .inv .1 .1 .least)
 
-entry-ok-requires : tie.Need-entry-ok-requires Inv-loop μ-loop
-entry-ok-requires c κs = search needs
-
 returns-2 : tie.Need-returns-2 Inv-loop μ-loop
 returns-2 c = entry-fails _ _ _ _ _ _ (c .before .before .before .before .loop .inv .1 .1) (c .before .before .before .loop-test .taken) (c .before .entry-ok .ensures) (not-true _ (c .if2 .taken))
-
-cast-k : tie.Need-cast-k Inv-loop μ-loop
-cast-k c = search needs
-
-array-read-if3 : tie.Need-array-read-if3 Inv-loop μ-loop
-array-read-if3 c = omega arith
 
 has-page-requires : tie.Need-has-page-requires Inv-loop μ-loop
 has-page-requires c κs = c .before .before .before .before .before .before .before .loop .inv .1 .0
 
 returns-3 : tie.Need-returns-3 Inv-loop μ-loop
-returns-3 c = page-twice _ _ _ _ _ _ (c .before .before .before .before .before .before .before .before .before .loop .inv .1 .1) (c .before .before .before .before .before .before .before .before .loop-test .taken) (c .before .before .before .before .before .before .entry-ok .ensures) (not-false _ (c .before .before .before .before .before .if2 .left)) (sym (c .before .has-page .ensures) ∙ c .if4 .taken)
-
-array-write-seen : tie.Need-array-write-seen Inv-loop μ-loop
-array-write-seen c = omega arith
-
-loop-less : tie.Need-loop-less Inv-loop μ-loop
-loop-less c = search needs
+returns-3 c =
+    let if2 = c .before .before .before .before .before .if2 in
+    let entry-ok = c .before .before .before .before .before .before .entry-ok in
+    let loop-test = c .before .before .before .before .before .before .before .before .loop-test in
+    let loop = c .before .before .before .before .before .before .before .before .before .loop in
+    page-twice _ _ _ _ _ _ (loop .inv .1 .1) (loop-test .taken) (entry-ok .ensures) (not-false _ (if2 .left)) (sym (c .before .has-page .ensures) ∙ c .if4 .taken)
 
 loop-again : tie.Need-loop-again Inv-loop μ-loop
 loop-again c =
@@ -74,16 +58,16 @@ slots-ok-spec =
     μ-loop
     returns
     loop-holds
-    sub-i
-    mul-e
+    (λ c. search needs)
+    (λ c. search needs)
     element-copy-out-e
-    entry-ok-requires
+    (λ c κs. search needs)
     returns-2
-    cast-k
-    array-read-if3
+    (λ c. search needs)
+    (λ c. omega arith)
     has-page-requires
     returns-3
-    array-write-seen
-    loop-less
+    (λ c. omega arith)
+    (λ c. search needs)
     loop-again
     returns-4)

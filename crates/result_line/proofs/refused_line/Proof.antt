@@ -5,18 +5,9 @@ use borrow.Author.Needs.{needs}
 use Rattle.result_line.proofs.refused_line.Statement.{statement}
 use Rattle.result_line.proofs.refused_line.Tie as tie
 
-slice-aggregate-named : tie.Need-slice-aggregate-named
-slice-aggregate-named c = search needs
-
-named-requires : tie.Need-named-requires
-named-requires c κs = search needs
-
-same-length : tie.Need-same-length
-same-length c = search needs
-
 returns : tie.Need-returns
 unfolding refusedLine
 returns c = shows (c .before .before .named .ensures .written)
 
 pub refused-line-spec : {M : Type 1} → statement M
-refused-line-spec = tie.close (tie.spec slice-aggregate-named named-requires same-length returns)
+refused-line-spec = tie.close (tie.spec (λ c. search needs) (λ c κs. search needs) (λ c. search needs) returns)

@@ -4,59 +4,42 @@ use borrow.Author.Needs.{needs}
 use Rattle.result_line.proofs.run_line.Statement.{statement}
 use Rattle.result_line.proofs.run_line.Tie as tie
 
-load-requires : tie.Need-load-requires
-load-requires c κs = search needs
-
-load-number-requires : tie.Need-load-number-requires
-load-number-requires c κs = search needs
-
-refused-line-requires : tie.Need-refused-line-requires
-refused-line-requires c κs = search needs
-
-same-length : tie.Need-same-length
-same-length c = search needs
-
-same-length-2 : tie.Need-same-length-2
-same-length-2 c = search needs
-
 returns : tie.Need-returns
-returns c = shown-refused _ _ _ (c .before .before .before .before .before .before .before .before .load .ensures .same) (c .before .before .before .before .before .load-number .ensures) (c .before .before .before .before .if1 .taken) (c .before .before .refused-line .ensures)
-
-slice-aggregate-run-packed : tie.Need-slice-aggregate-run-packed
-slice-aggregate-run-packed c = search needs
-
-run-packed-requires : tie.Need-run-packed-requires
-run-packed-requires c κs = search needs
+returns c =
+    let if1 = c .before .before .before .before .if1 in
+    let load-number = c .before .before .before .before .before .load-number in
+    let load = c .before .before .before .before .before .before .before .before .load in
+    shown-refused _ _ _ (load .ensures .same) (load-number .ensures) (if1 .taken) (c .before .before .refused-line .ensures)
 
 stop-line-requires : tie.Need-stop-line-requires
-stop-line-requires c κs = c .before .before .before .before .before .before .before .before .before .before .before .before .before .before .before .before .before .before .before .before .before .before .before .pre
-
-same-length-3 : tie.Need-same-length-3
-same-length-3 c = search needs
-
-same-length-4 : tie.Need-same-length-4
-same-length-4 c = search needs
-
-same-length-5 : tie.Need-same-length-5
-same-length-5 c = search needs
+stop-line-requires c κs =
+    let earlier = c .before .before .before .before .before .before .before .before .before .before .before .before .before .before .before .before .before in
+    let pre = earlier .before .before .before .before .before .before .pre in
+    pre
 
 returns-2 : tie.Need-returns-2
-returns-2 c = shown-ran _ _ _ (c .before .before .before .before .before .before .before .before .before .before .before .before .before .before .before .before .before .before .before .before .load .ensures .same) (c .before .before .before .before .before .before .before .before .before .before .before .before .before .before .before .before .before .load-number .ensures) (c .before .before .before .before .before .before .before .before .before .before .before .before .before .before .before .before .if1 .left) (c .before .before .before .before .before .before .before .before .before .before .before .run-packed .ensures) (c .before .before .stop-line .ensures)
+returns-2 c =
+    let at-run-packed = c .before .before .before .before .before .before .before .before .before .before .before in
+    let run-packed = at-run-packed .run-packed in
+    let if1 = at-run-packed .before .before .before .before .before .if1 in
+    let load-number = at-run-packed .before .before .before .before .before .before .load-number in
+    let load = at-run-packed .before .before .before .before .before .before .before .before .before .load in
+    shown-ran _ _ _ (load .ensures .same) (load-number .ensures) (if1 .left) (run-packed .ensures) (c .before .before .stop-line .ensures)
 
 pub run-line-spec : {M : Type 1} → statement M
 run-line-spec =
     tie.close
     (tie.spec
-    load-requires
-    load-number-requires
-    refused-line-requires
-    same-length
-    same-length-2
+    (λ c κs. search needs)
+    (λ c κs. search needs)
+    (λ c κs. search needs)
+    (λ c. search needs)
+    (λ c. search needs)
     returns
-    slice-aggregate-run-packed
-    run-packed-requires
+    (λ c. search needs)
+    (λ c κs. search needs)
     stop-line-requires
-    same-length-3
-    same-length-4
-    same-length-5
+    (λ c. search needs)
+    (λ c. search needs)
+    (λ c. search needs)
     returns-2)

@@ -6,99 +6,106 @@ use borrow.Author.Needs.{needs}
 use Rattle.result_line.proofs.stop_line.Statement.{statement}
 use Rattle.result_line.proofs.stop_line.Tie as tie
 
-slice-aggregate-named : tie.Need-slice-aggregate-named
-slice-aggregate-named c = search needs
-
-stop-number-requires : tie.Need-stop-number-requires
-stop-number-requires c κs = search needs
-
-cast-named : tie.Need-cast-named
-cast-named c = search needs
-
-named-requires : tie.Need-named-requires
-named-requires c κs = search needs
-
-slice-aggregate-named-2 : tie.Need-slice-aggregate-named-2
-slice-aggregate-named-2 c = search needs
-
-named-requires-2 : tie.Need-named-requires-2
-named-requires-2 c κs = search needs
-
-slice-aggregate-named-3 : tie.Need-slice-aggregate-named-3
-slice-aggregate-named-3 c = search needs
-
-cast-named-2 : tie.Need-cast-named-2
-cast-named-2 c = search needs
-
-named-requires-3 : tie.Need-named-requires-3
-named-requires-3 c κs = search needs
-
-slice-aggregate-named-4 : tie.Need-slice-aggregate-named-4
-slice-aggregate-named-4 c = search needs
-
-cast-named-3 : tie.Need-cast-named-3
-cast-named-3 c = search needs
-
-named-requires-4 : tie.Need-named-requires-4
-named-requires-4 c κs = search needs
-
-slice-aggregate-named-5 : tie.Need-slice-aggregate-named-5
-slice-aggregate-named-5 c = search needs
-
-cast-named-4 : tie.Need-cast-named-4
-cast-named-4 c = search needs
-
 named-requires-5 : tie.Need-named-requires-5
-named-requires-5 c κs = within-fits 3 (omega arith) (within-on 98 (omega arith) (within-on 75 (omega arith) (within-on 52 (omega arith) (within-on 25 (omega arith) (within-start (c .before .before .before .before .before .before .before .before .before .before .before .before .before .before .before .before .before .before .before .before .before .before .before .before .before .before .before .args .line .now) (c .before .before .before .before .before .before .before .before .before .before .before .before .before .before .before .before .before .before .before .before .before .before .before .before .before .before .before .pre)) (c .before .before .before .before .before .before .before .before .before .before .before .before .before .before .before .before .before .before .before .before .before .before .named .ensures) (c .before .before .before .before .before .before .before .before .before .before .before .before .before .before .before .before .before .before .before .before .before .before .named .kept .0)) (c .before .before .before .before .before .before .before .before .before .before .before .before .before .before .before .before .before .named2 .ensures) (c .before .before .before .before .before .before .before .before .before .before .before .before .before .before .before .before .before .named2 .kept .0)) (c .before .before .before .before .before .before .before .before .before .before .before .named3 .ensures) (c .before .before .before .before .before .before .before .before .before .before .before .named3 .kept .0)) (c .before .before .before .before .before .named4 .ensures) (c .before .before .before .before .before .named4 .kept .0))
-
-slice-aggregate-named-6 : tie.Need-slice-aggregate-named-6
-slice-aggregate-named-6 c = search needs
-
-cast-named-5 : tie.Need-cast-named-5
-cast-named-5 c = search needs
+named-requires-5 c κs =
+    let named4 = c .before .before .before .before .before .named4 in
+    let at-named3 = c .before .before .before .before .before .before .before .before .before .before .before in
+    let named3 = at-named3 .named3 in
+    let named2 = at-named3 .before .before .before .before .before .before .named2 in
+    let at-named = at-named3 .before .before .before .before .before .before .before .before .before .before .before in
+    let named = at-named .named in
+    let given = at-named .before .before .before .before .before .args in
+    let pre = at-named .before .before .before .before .before .pre in
+    within-fits 3 (omega arith) (within-on 98 (omega arith) (within-on 75 (omega arith)
+    (within-on 52 (omega arith) (within-on 25 (omega arith) (within-start (given .line .now) pre) (named .ensures) (named .kept .0))
+    (named2 .ensures) (named2 .kept .0)) (named3 .ensures) (named3 .kept .0)) (named4 .ensures) (named4 .kept .0))
 
 named-requires-6 : tie.Need-named-requires-6
-named-requires-6 c κs = within-fits 4 (omega arith) (within-on 121 (omega arith) (within-on 98 (omega arith) (within-on 75 (omega arith) (within-on 52 (omega arith) (within-on 25 (omega arith) (within-start (c .before .before .before .before .before .before .before .before .before .before .before .before .before .before .before .before .before .before .before .before .before .before .before .before .before .before .before .before .before .before .before .before .before .args .line .now) (c .before .before .before .before .before .before .before .before .before .before .before .before .before .before .before .before .before .before .before .before .before .before .before .before .before .before .before .before .before .before .before .before .before .pre)) (c .before .before .before .before .before .before .before .before .before .before .before .before .before .before .before .before .before .before .before .before .before .before .before .before .before .before .before .before .named .ensures) (c .before .before .before .before .before .before .before .before .before .before .before .before .before .before .before .before .before .before .before .before .before .before .before .before .before .before .before .before .named .kept .0)) (c .before .before .before .before .before .before .before .before .before .before .before .before .before .before .before .before .before .before .before .before .before .before .before .named2 .ensures) (c .before .before .before .before .before .before .before .before .before .before .before .before .before .before .before .before .before .before .before .before .before .before .before .named2 .kept .0)) (c .before .before .before .before .before .before .before .before .before .before .before .before .before .before .before .before .before .named3 .ensures) (c .before .before .before .before .before .before .before .before .before .before .before .before .before .before .before .before .before .named3 .kept .0)) (c .before .before .before .before .before .before .before .before .before .before .before .named4 .ensures) (c .before .before .before .before .before .before .before .before .before .before .before .named4 .kept .0)) (c .before .before .before .before .before .named5 .ensures) (c .before .before .before .before .before .named5 .kept .0))
-
-slice-aggregate-named-7 : tie.Need-slice-aggregate-named-7
-slice-aggregate-named-7 c = search needs
-
-cast-named-6 : tie.Need-cast-named-6
-cast-named-6 c = search needs
+named-requires-6 c κs =
+    let named5 = c .before .before .before .before .before .named5 in
+    let at-named4 = c .before .before .before .before .before .before .before .before .before .before .before in
+    let named4 = at-named4 .named4 in
+    let named3 = at-named4 .before .before .before .before .before .before .named3 in
+    let at-named2 = at-named4 .before .before .before .before .before .before .before .before .before .before .before .before in
+    let named2 = at-named2 .named2 in
+    let named = at-named2 .before .before .before .before .before .named in
+    let given = at-named2 .before .before .before .before .before .before .before .before .before .before .args in
+    let pre = at-named2 .before .before .before .before .before .before .before .before .before .before .pre in
+    within-fits 4 (omega arith) (within-on 121 (omega arith) (within-on 98 (omega arith)
+    (within-on 75 (omega arith) (within-on 52 (omega arith) (within-on 25 (omega arith) (within-start (given .line .now) pre) (named .ensures)
+    (named .kept .0)) (named2 .ensures) (named2 .kept .0)) (named3 .ensures) (named3 .kept .0)) (named4 .ensures) (named4 .kept .0))
+    (named5 .ensures) (named5 .kept .0))
 
 named-requires-7 : tie.Need-named-requires-7
-named-requires-7 c κs = within-fits 4 (omega arith) (within-on 145 (omega arith) (within-on 121 (omega arith) (within-on 98 (omega arith) (within-on 75 (omega arith) (within-on 52 (omega arith) (within-on 25 (omega arith) (within-start (c .before .before .before .before .before .before .before .before .before .before .before .before .before .before .before .before .before .before .before .before .before .before .before .before .before .before .before .before .before .before .before .before .before .before .before .before .before .before .before .args .line .now) (c .before .before .before .before .before .before .before .before .before .before .before .before .before .before .before .before .before .before .before .before .before .before .before .before .before .before .before .before .before .before .before .before .before .before .before .before .before .before .before .pre)) (c .before .before .before .before .before .before .before .before .before .before .before .before .before .before .before .before .before .before .before .before .before .before .before .before .before .before .before .before .before .before .before .before .before .before .named .ensures) (c .before .before .before .before .before .before .before .before .before .before .before .before .before .before .before .before .before .before .before .before .before .before .before .before .before .before .before .before .before .before .before .before .before .before .named .kept .0)) (c .before .before .before .before .before .before .before .before .before .before .before .before .before .before .before .before .before .before .before .before .before .before .before .before .before .before .before .before .before .named2 .ensures) (c .before .before .before .before .before .before .before .before .before .before .before .before .before .before .before .before .before .before .before .before .before .before .before .before .before .before .before .before .before .named2 .kept .0)) (c .before .before .before .before .before .before .before .before .before .before .before .before .before .before .before .before .before .before .before .before .before .before .before .named3 .ensures) (c .before .before .before .before .before .before .before .before .before .before .before .before .before .before .before .before .before .before .before .before .before .before .before .named3 .kept .0)) (c .before .before .before .before .before .before .before .before .before .before .before .before .before .before .before .before .before .named4 .ensures) (c .before .before .before .before .before .before .before .before .before .before .before .before .before .before .before .before .before .named4 .kept .0)) (c .before .before .before .before .before .before .before .before .before .before .before .named5 .ensures) (c .before .before .before .before .before .before .before .before .before .before .before .named5 .kept .0)) (c .before .before .before .before .before .named6 .ensures) (c .before .before .before .before .before .named6 .kept .0))
+named-requires-7 c κs =
+    let named6 = c .before .before .before .before .before .named6 in
+    let at-named5 = c .before .before .before .before .before .before .before .before .before .before .before in
+    let named5 = at-named5 .named5 in
+    let named4 = at-named5 .before .before .before .before .before .before .named4 in
+    let at-named3 = at-named5 .before .before .before .before .before .before .before .before .before .before .before .before in
+    let named3 = at-named3 .named3 in
+    let named2 = at-named3 .before .before .before .before .before .before .named2 in
+    let at-named = at-named3 .before .before .before .before .before .before .before .before .before .before .before in
+    let named = at-named .named in
+    let given = at-named .before .before .before .before .before .args in
+    let pre = at-named .before .before .before .before .before .pre in
+    within-fits 4 (omega arith) (within-on 145 (omega arith) (within-on 121 (omega arith)
+    (within-on 98 (omega arith) (within-on 75 (omega arith) (within-on 52 (omega arith)
+    (within-on 25 (omega arith) (within-start (given .line .now) pre) (named .ensures) (named .kept .0)) (named2 .ensures) (named2 .kept .0))
+    (named3 .ensures) (named3 .kept .0)) (named4 .ensures) (named4 .kept .0)) (named5 .ensures) (named5 .kept .0)) (named6 .ensures)
+    (named6 .kept .0))
 
 same-length : tie.Need-same-length
-same-length c = c .before .before .named7 .kept .0 ∙ c .before .before .before .before .before .before .before .before .named6 .kept .0 ∙ c .before .before .before .before .before .before .before .before .before .before .before .before .before .before .named5 .kept .0 ∙ c .before .before .before .before .before .before .before .before .before .before .before .before .before .before .before .before .before .before .before .before .named4 .kept .0 ∙ c .before .before .before .before .before .before .before .before .before .before .before .before .before .before .before .before .before .before .before .before .before .before .before .before .before .before .named3 .kept .0 ∙ c .before .before .before .before .before .before .before .before .before .before .before .before .before .before .before .before .before .before .before .before .before .before .before .before .before .before .before .before .before .before .before .before .named2 .kept .0 ∙ c .before .before .before .before .before .before .before .before .before .before .before .before .before .before .before .before .before .before .before .before .before .before .before .before .before .before .before .before .before .before .before .before .before .before .before .before .before .named .kept .0
+same-length c =
+    let named6 = c .before .before .before .before .before .before .before .before .named6 in
+    let at-named5 = c .before .before .before .before .before .before .before .before .before .before .before .before .before .before in
+    let named5 = at-named5 .named5 in
+    let named4 = at-named5 .before .before .before .before .before .before .named4 in
+    let at-named3 = at-named5 .before .before .before .before .before .before .before .before .before .before .before .before in
+    let named3 = at-named3 .named3 in
+    let named2 = at-named3 .before .before .before .before .before .before .named2 in
+    let named = at-named3 .before .before .before .before .before .before .before .before .before .before .before .named in
+    c .before .before .named7 .kept .0 ∙ named6 .kept .0 ∙ named5 .kept .0 ∙ named4 .kept .0 ∙ named3 .kept .0 ∙ named2 .kept .0 ∙ named .kept .0
 
 returns : tie.Need-returns
-returns c = stop-shows (c .before .before .before .before .before .before .before .before .before .before .before .before .before .before .before .before .before .before .before .before .before .before .before .before .before .before .before .before .before .before .before .before .before .before .before .before .before .before .before .before .before .before .args .r) (c .before .before .before .before .before .before .before .before .before .before .before .before .before .before .before .before .before .before .before .before .before .before .before .before .before .before .before .before .before .before .before .before .before .before .before .before .before .before .stop-number .ensures) (c .before .before .before .before .before .before .before .before .before .before .before .before .before .before .before .before .before .before .before .before .before .before .before .before .before .before .before .before .before .before .before .before .before .before .before .before .before .named .ensures) (c .before .before .before .before .before .before .before .before .before .before .before .before .before .before .before .before .before .before .before .before .before .before .before .before .before .before .before .before .before .before .before .before .named2 .ensures) (c .before .before .before .before .before .before .before .before .before .before .before .before .before .before .before .before .before .before .before .before .before .before .before .before .before .before .named3 .ensures) (c .before .before .before .before .before .before .before .before .before .before .before .before .before .before .before .before .before .before .before .before .named4 .ensures) (c .before .before .before .before .before .before .before .before .before .before .before .before .before .before .named5 .ensures) (c .before .before .before .before .before .before .before .before .named6 .ensures) (c .before .before .named7 .ensures)
+returns c =
+    let named6 = c .before .before .before .before .before .before .before .before .named6 in
+    let at-named5 = c .before .before .before .before .before .before .before .before .before .before .before .before .before .before in
+    let named5 = at-named5 .named5 in
+    let named4 = at-named5 .before .before .before .before .before .before .named4 in
+    let at-named3 = at-named5 .before .before .before .before .before .before .before .before .before .before .before .before in
+    let named3 = at-named3 .named3 in
+    let named2 = at-named3 .before .before .before .before .before .before .named2 in
+    let named = at-named3 .before .before .before .before .before .before .before .before .before .before .before .named in
+    let at-stop-number = at-named3 .before .before .before .before .before .before .before .before .before .before .before .before in
+    let stop-number = at-stop-number .stop-number in
+    let given = at-stop-number .before .before .before .before .args in
+    stop-shows (given .r) (stop-number .ensures) (named .ensures) (named2 .ensures) (named3 .ensures) (named4 .ensures) (named5 .ensures) (named6 .ensures) (c .before .before .named7 .ensures)
 
 pub stop-line-spec : {M : Type 1} → statement M
 stop-line-spec =
     tie.close
     (tie.spec
-    slice-aggregate-named
-    stop-number-requires
-    cast-named
-    named-requires
-    slice-aggregate-named-2
-    named-requires-2
-    slice-aggregate-named-3
-    cast-named-2
-    named-requires-3
-    slice-aggregate-named-4
-    cast-named-3
-    named-requires-4
-    slice-aggregate-named-5
-    cast-named-4
+    (λ c. search needs)
+    (λ c κs. search needs)
+    (λ c. search needs)
+    (λ c κs. search needs)
+    (λ c. search needs)
+    (λ c κs. search needs)
+    (λ c. search needs)
+    (λ c. search needs)
+    (λ c κs. search needs)
+    (λ c. search needs)
+    (λ c. search needs)
+    (λ c κs. search needs)
+    (λ c. search needs)
+    (λ c. search needs)
     named-requires-5
-    slice-aggregate-named-6
-    cast-named-5
+    (λ c. search needs)
+    (λ c. search needs)
     named-requires-6
-    slice-aggregate-named-7
-    cast-named-6
+    (λ c. search needs)
+    (λ c. search needs)
     named-requires-7
     same-length
     returns)

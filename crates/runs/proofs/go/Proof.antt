@@ -17,25 +17,38 @@ loop-holds : tie.Need-loop-holds Inv-loop μ-loop
 loop-holds c = (refl, (refl, (refl, turn-first (c .before .before .before .pre .0))))
 
 advance-requires : tie.Need-advance-requires Inv-loop μ-loop
-advance-requires c κs = (turn-ready (c .before .before .before .before .before .before .before .before .before .before .before .pre .0) (c .before .before .before .before .before .before .before .loop .inv .1 .1 .1) (c .before .before .before .before .if1 .taken), turn-fits (c .before .before .before .before .before .before .before .before .before .before .before .pre .0) (c .before .before .before .before .before .before .before .loop .inv .1 .1 .1) (c .before .before .before .before .if1 .taken) (c .before .before .before .before .before .before .before .before .before .before .before .pre .1))
-
-left-of-requires : tie.Need-left-of-requires Inv-loop μ-loop
-left-of-requires c κs = search needs
+advance-requires c κs =
+    let if1 = c .before .before .before .before .if1 in
+    let loop = c .before .before .before .before .before .before .before .loop in
+    let pre = c .before .before .before .before .before .before .before .before .before .before .before .pre in
+    (turn-ready (pre .0) (loop .inv .1 .1 .1) (if1 .taken), turn-fits (pre .0) (loop .inv .1 .1 .1) (if1 .taken) (pre .1))
 
 loop-less : tie.Need-loop-less Inv-loop μ-loop
-loop-less c = turn-less (c .before .before .before .before .before .before .before .before .before .before .before .before .before .before .before .before .before .before .before .before .pre .0) (c .before .before .before .before .before .before .before .before .before .before .before .before .before .before .before .before .loop .inv .1 .1 .1) (c .before .before .before .before .before .before .before .before .before .before .before .before .before .if1 .taken) (c .before .before .before .before .before .before .before .before .advance .ensures) (c .left-of .ensures)
+loop-less c =
+    let advance = c .before .before .before .before .before .before .before .before .advance in
+    let at-if1 = c .before .before .before .before .before .before .before .before .before .before .before .before .before in
+    let if1 = at-if1 .if1 in
+    let loop = at-if1 .before .before .before .loop in
+    let pre = at-if1 .before .before .before .before .before .before .before .pre in
+    turn-less (pre .0) (loop .inv .1 .1 .1) (if1 .taken) (advance .ensures) (c .left-of .ensures)
 
 loop-again : tie.Need-loop-again Inv-loop μ-loop
-loop-again c = (c .before .before .before .before .before .before .before .before .advance .kept .1 .1 .1 .0 ∙ c .before .before .before .before .before .before .before .before .before .before .before .before .before .before .before .before .loop .inv .0, (c .before .before .before .before .before .before .before .before .advance .kept .1 .1 .1 .1 .0 ∙ c .before .before .before .before .before .before .before .before .before .before .before .before .before .before .before .before .loop .inv .1 .0, (c .before .before .before .before .before .before .before .before .advance .kept .1 .1 .1 .1 .1 .0 ∙ c .before .before .before .before .before .before .before .before .before .before .before .before .before .before .before .before .loop .inv .1 .1 .0, turn-next (c .before .before .before .before .before .before .before .before .before .before .before .before .before .before .before .before .before .before .before .before .pre .0) (c .before .before .before .before .before .before .before .before .before .before .before .before .before .before .before .before .loop .inv .1 .1 .1) (c .before .before .before .before .before .before .before .before .before .before .before .before .before .if1 .taken) (c .before .before .before .before .before .before .before .before .advance .ensures) (c .left-of .ensures))))
-
-same-length : tie.Need-same-length Inv-loop μ-loop
-same-length c = search needs
-
-same-length-2 : tie.Need-same-length-2 Inv-loop μ-loop
-same-length-2 c = search needs
-
-same-length-3 : tie.Need-same-length-3 Inv-loop μ-loop
-same-length-3 c = search needs
+loop-again c =
+    let advance = c .before .before .before .before .before .before .before .before .advance in
+    let at-if1 = c .before .before .before .before .before .before .before .before .before .before .before .before .before in
+    let if1 = at-if1 .if1 in
+    let loop = at-if1 .before .before .before .loop in
+    let pre = at-if1 .before .before .before .before .before .before .before .pre in (
+      advance .kept .1 .1 .1 .0 ∙ loop .inv .0,
+      (
+        advance .kept .1 .1 .1 .1 .0 ∙ loop .inv .1 .0,
+        (
+          advance .kept .1 .1 .1 .1 .1 .0 ∙ loop .inv .1 .1 .0,
+          turn-next (pre .0) (loop .inv .1 .1 .1) (if1 .taken) (advance .ensures)
+              (c .left-of .ensures),
+        ),
+      ),
+    )
 
 returns : tie.Need-returns Inv-loop μ-loop
 returns c = turn-last (c .before .before .before .before .before .before .before .pre .0) (c .before .before .before .loop .inv .1 .1 .1) (c .if1 .left)
@@ -48,10 +61,10 @@ go-spec =
     μ-loop
     loop-holds
     advance-requires
-    left-of-requires
+    (λ c κs. search needs)
     loop-less
     loop-again
-    same-length
-    same-length-2
-    same-length-3
+    (λ c. search needs)
+    (λ c. search needs)
+    (λ c. search needs)
     returns)

@@ -5,9 +5,6 @@ use borrow.Author.Needs.{needs}
 use Rattle.runs.proofs.left_of.Statement.{statement}
 use Rattle.runs.proofs.left_of.Tie as tie
 
-is-running-requires : tie.Need-is-running-requires
-is-running-requires c κs = search needs
-
 returns : tie.Need-returns
 returns c = left-taken _ _ (sym (c .before .is-running .ensures) ∙ c .if1 .taken)
 
@@ -15,4 +12,4 @@ returns-2 : tie.Need-returns-2
 returns-2 c = left-none _ _ (sym (c .before .is-running .ensures) ∙ c .if1 .left)
 
 pub left-of-spec : {M : Type 1} → statement M
-left-of-spec = tie.close (tie.spec is-running-requires returns returns-2)
+left-of-spec = tie.close (tie.spec (λ c κs. search needs) returns returns-2)

@@ -57,9 +57,6 @@ cast-hint c = omega (arith, c .before .before .loop-test .taken, (c .before .bef
 cast-hint-2 : tie.Need-cast-hint-2 Inv-loop μ-loop Inv-loop2 μ-loop2
 cast-hint-2 c = omega (arith, c .before .before .before .loop-test .taken, (c .before .before .before .before .loop .inv .0))
 
-array-write-hint : tie.Need-array-write-hint Inv-loop μ-loop Inv-loop2 μ-loop2
-array-write-hint c = omega arith
-
 add-i : tie.Need-add-i Inv-loop μ-loop Inv-loop2 μ-loop2
 add-i c = omega (arith, c .before .before .before .loop-test .taken, (c .before .before .before .before .loop .inv .0))
 
@@ -79,9 +76,6 @@ slice-aggregate-recount c = sym (c .before .before .loop .inv .1 .1 .1 .0)
 recount-requires : tie.Need-recount-requires Inv-loop μ-loop Inv-loop2 μ-loop2
 recount-requires c κs = ((c .before .before .loop .inv .0), c .before .before .loop .inv .1 .1 .1 .0)
 
-slice-aggregate-go : tie.Need-slice-aggregate-go Inv-loop μ-loop Inv-loop2 μ-loop2
-slice-aggregate-go c = search needs
-
 go-requires : tie.Need-go-requires Inv-loop μ-loop Inv-loop2 μ-loop2
 go-requires c κs =
     let b = c .before .before .before .before .before .before .before .before .before .before .before .before .before .before .pre .0 in
@@ -96,18 +90,20 @@ sub-steps c = omega (arith, c .before .before .before .before .before .before .b
 
 add-steps : tie.Need-add-steps Inv-loop μ-loop Inv-loop2 μ-loop2
 add-steps c =
-    let t = c .before .before .before .before .before .before .before .before .before .go .ensures in
-    let b = c .before .before .before .before .before .before .before .before .before .before .before .before .before .before .before .before .before .before .before .before .before .before .before .before .pre .0 in
+    let at-t = c .before .before .before .before .before .before .before .before .before in
+    let t = at-t .go .ensures in
+    let b = at-t .before .before .before .before .before .before .before .before .before .before .before .before .before .before .before .pre .0 in
     omega (arith, t .count, t .later, b .count, b .steps)
-
-slice-aggregate-count : tie.Need-slice-aggregate-count Inv-loop μ-loop Inv-loop2 μ-loop2
-slice-aggregate-count c = search needs
 
 count-requires : tie.Need-count-requires Inv-loop μ-loop Inv-loop2 μ-loop2
 count-requires c κs = c .before .before .before .before .before .before .before .before .before .before .go .ensures .good .buffer
 
 loop2-holds : tie.Need-loop2-holds Inv-loop μ-loop Inv-loop2 μ-loop2
-loop2-holds c = (omega (arith, c .count .ensures, c .before .before .before .before .before .before .before .before .before .before .before .go .ensures .good .buffer .few), (omega arith, (refl, (refl, ((c .before .before .before .before .before .before .before .before .before .before .before .before .before .before .before .before .before .before .before .before .loop .inv .1 .0), refl)))))
+loop2-holds c =
+    let at-go = c .before .before .before .before .before .before .before .before .before .before .before in
+    let go = at-go .go in
+    let loop = at-go .before .before .before .before .before .before .before .before .before .loop in
+    (omega (arith, c .count .ensures, go .ensures .good .buffer .few), (omega arith, (refl, (refl, ((loop .inv .1 .0), refl)))))
 
 mul-unpack : tie.Need-mul-unpack Inv-loop μ-loop Inv-loop2 μ-loop2
 mul-unpack c = omega (arith, c .loop2-test .taken, c .before .loop2 .inv .0)
@@ -141,22 +137,19 @@ loop2-again c =
     let u = unpacked-turn d (c .before .before .before .count .ensures) _ _ (j .1 .1 .1 .1 .1) (j .1 .1 .1 .1 .0) t (c .unpack .ensures) in
     (j .0, (omega (arith, t), (j .1 .1 .0, (j .1 .1 .1 .0, (s ∙ j .1 .1 .1 .1 .0, u)))))
 
-same-length : tie.Need-same-length Inv-loop μ-loop Inv-loop2 μ-loop2
-same-length c = search needs
-
-same-length-2 : tie.Need-same-length-2 Inv-loop μ-loop Inv-loop2 μ-loop2
-same-length-2 c = search needs
-
 returns : tie.Need-returns Inv-loop μ-loop Inv-loop2 μ-loop2
 returns c =
-    let b = c .before .before .before .before .before .before .before .before .before .before .before .before .before .before .before .before .before .before .before .before .before .before .before .before .before .before .before .before .pre .0 in
-    let l = c .before .before .before .before .before .before .before .before .before .before .before .before .before .before .before .before .before .before .before .before .before .before .loop .inv in
     let j = c .before .loop2 .inv in
-    let t = c .before .before .before .before .before .before .before .before .before .before .before .before .before .go .ensures in
     let n = c .before .before .count .ensures in
+    let at-t = c .before .before .before .before .before .before .before .before .before .before .before .before .before in
+    let t = at-t .go .ensures in
+    let recount = at-t .before .before .before .before .before .before .recount in
+    let loop-test = at-t .before .before .before .before .before .before .before .before .loop-test in
+    let l = at-t .before .before .before .before .before .before .before .before .before .loop .inv in
+    let b = at-t .before .before .before .before .before .before .before .before .before .before .before .before .before .before .before .pre .0 in
     let p =
-    all-packed _ _ _ (l .1 .0) (b .entries) _ _ (c .before .before .before .before .before .before .before .before .before .before .before .before .before .before .before .before .before .before .before .recount .ensures)
-    (l .1 .1 .1 .0) (l .1 .1 .0) (c .before .before .before .before .before .before .before .before .before .before .before .before .before .before .before .before .before .before .before .before .before .loop-test .left) (l .1 .1 .1 .1) in
+    all-packed _ _ _ (l .1 .0) (b .entries) _ _ (recount .ensures)
+    (l .1 .1 .1 .0) (l .1 .1 .0) (loop-test .left) (l .1 .1 .1 .1) in
     let u = unpacked-last (t .good .buffer) n _ _ (j .1 .1 .1 .1 .1) (j .1 .0) (c .loop2-test .left) in
     proceeds-in-place b (p .0) (p .1) t _ u n _ refl (j .1 .1 .0) (j .1 .1 .1 .0)
 
@@ -176,17 +169,17 @@ proceed-spec =
     array-write-tlb
     cast-hint
     cast-hint-2
-    array-write-hint
+    (λ c. omega arith)
     add-i
     loop-less
     loop-again
     slice-aggregate-recount
     recount-requires
-    slice-aggregate-go
+    (λ c. search needs)
     go-requires
     sub-steps
     add-steps
-    slice-aggregate-count
+    (λ c. search needs)
     count-requires
     loop2-holds
     mul-unpack
@@ -197,6 +190,6 @@ proceed-spec =
     add-j
     loop2-less
     loop2-again
-    same-length
-    same-length-2
+    (λ c. search needs)
+    (λ c. search needs)
     returns)

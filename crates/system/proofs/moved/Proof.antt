@@ -3,11 +3,8 @@ use borrow.Author.Needs.{needs}
 use Rattle.system.proofs.moved.Statement.{statement}
 use Rattle.system.proofs.moved.Tie as tie
 
-next-pc-requires : tie.Need-next-pc-requires
-next-pc-requires c κs = search needs
-
 returns : tie.Need-returns
 returns c = rw (c .before .next-pc .ensures)
 
 pub moved-spec : {M : Type 1} → statement M
-moved-spec = tie.close (tie.spec next-pc-requires returns)
+moved-spec = tie.close (tie.spec (λ c κs. search needs) returns)

@@ -22,10 +22,12 @@ load4-requires c κs =
 returns-2 : tie.Need-returns-2
 unfolding leaveTree
 returns-2 c =
-    let translate = c .before .before .before .before .before .before .before .before .before .before .before .before .before .translate in
-    let p = c .before .before .before .before .before .before .before .p in
+    let sum = c .before .before .before .sum in
     let load4 = c .before .before .before .before .load4 in
-    executes-read (translate .ensures) (p .given .1) (load4 .ensures) (executes-fine (translate .ensures .good) (rw (c .fine .ensures, c .before .regs .ensures, c .before .before .sum2 .ensures, c .before .before .before .sum .ensures)))
+    let p = c .before .before .before .before .before .before .before .p in
+    let translate = c .before .before .before .before .before .before .before .before .before .before .before .before .before .translate in
+    executes-read (translate .ensures) (p .given .1) (load4 .ensures)
+    (executes-fine (translate .ensures .good) (rw (c .fine .ensures, c .before .regs .ensures, c .before .before .sum2 .ensures, sum .ensures)))
 
 pub leave-spec : {M : Type 1} → statement M
 leave-spec =

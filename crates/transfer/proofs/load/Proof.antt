@@ -26,12 +26,14 @@ value-requires c κs =
 returns-2 : tie.Need-returns-2
 unfolding loadTree
 returns-2 c =
-    let size = c .before .before .before .before .before .before .before .before .before .before .before .before .before .before .before .before .before .size in
-    let base = c .before .before .before .before .before .before .before .before .before .before .before .before .before .before .before .before .base in
-    let sum = c .before .before .before .before .before .before .before .before .before .before .before .before .before .before .before .sum in
-    let translate = c .before .before .before .before .before .before .before .before .before .before .before .translate in
     let p = c .before .before .before .before .before .p in
-    rw (← size .ensures, ← base .ensures, ← sum .ensures) (executes-read (translate .ensures) (p .given .1) refl (executes-fine (translate .ensures .good) (rw (c .fine .ensures, c .before .put .ensures, c .before .before .value .ensures, size .ensures))))
+    let translate = c .before .before .before .before .before .before .before .before .before .before .before .translate in
+    let at-sum = c .before .before .before .before .before .before .before .before .before .before .before .before .before .before .before in
+    let sum = at-sum .sum in
+    let base = at-sum .before .base in
+    let size = at-sum .before .before .size in
+    rw (← size .ensures, ← base .ensures, ← sum .ensures) (executes-read (translate .ensures) (p .given .1) refl
+    (executes-fine (translate .ensures .good) (rw (c .fine .ensures, c .before .put .ensures, c .before .before .value .ensures, size .ensures))))
 
 pub load-spec : {M : Type 1} → statement M
 load-spec =

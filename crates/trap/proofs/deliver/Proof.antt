@@ -29,57 +29,68 @@ same-length-4 c =
 
 returns-2 : tie.Need-returns-2
 returns-2 c =
-    let kernel-sp = c .before .before .before .before .before .before .before .before .before .before .before .before .before .before .before .before .before .before .before .before .before .before .before .before .kernel-sp in
-    let difference = c .before .before .before .before .before .before .before .before .before .before .before .before .before .before .before .before .before .before .before .before .before .before .before .difference in
-    let difference2 = c .before .before .before .before .before .before .before .before .before .before .before .before .before .before .before .before .before .before .before .before .before .before .difference2 in
-    let translate = c .before .before .before .before .before .before .before .before .before .before .before .before .before .before .before .before .before .before .translate in
-    let p = c .before .before .before .before .before .before .before .before .before .before .before .before .p in
     let translate2 = c .before .before .before .before .before .before .before .translate2 in
-    λ con. deliver-second _ _ _ (kernel-sp .ensures) (difference .ensures) (difference2 .ensures) (translate .ensures) (p .given .1) (translate2 .ensures) (c .before .enum-told2 .given .1) (c .no-frame2 .ensures)
+    let at-p = c .before .before .before .before .before .before .before .before .before .before .before .before in
+    let p = at-p .p in
+    let translate = at-p .before .before .before .before .before .before .translate in
+    let difference2 = at-p .before .before .before .before .before .before .before .before .before .before .difference2 in
+    let difference = at-p .before .before .before .before .before .before .before .before .before .before .before .difference in
+    let kernel-sp = at-p .before .before .before .before .before .before .before .before .before .before .before .before .kernel-sp in
+    λ con. deliver-second _ _ _ (kernel-sp .ensures) (difference .ensures) (difference2 .ensures) (translate .ensures) (p .given .1)
+    (translate2 .ensures) (c .before .enum-told2 .given .1) (c .no-frame2 .ensures)
 
 store-requires : tie.Need-store-requires
 store-requires c κs =
-    let pre = c .before .before .before .before .before .before .before .before .before .before .before .before .before .before .before .before .before .before .before .before .before .before .before .before .before .before .before .before .before .pre in
-    let translate = c .before .before .before .before .before .before .before .before .before .before .before .before .before .before .before .before .before .before .before .translate in
-    let p = c .before .before .before .before .before .before .before .before .before .before .before .before .before .p in
     let translate2 = c .before .before .before .before .before .before .before .before .translate2 in
+    let at-p = c .before .before .before .before .before .before .before .before .before .before .before .before .before in
+    let p = at-p .p in
+    let at-translate = at-p .before .before .before .before .before .before in
+    let translate = at-translate .translate in
+    let pre = at-translate .before .before .before .before .before .before .before .before .before .before .pre in
     omega (arith, at-within Word pre (translate .ensures) (p .given .1), translate2 .kept .0)
 
 store-requires-2 : tie.Need-store-requires-2
 store-requires-2 c κs =
-    let translate = c .before .before .before .before .before .before .before .before .before .before .before .before .before .before .before .before .before .before .before .before .before .before .before .before .translate in
-    let translate2 = c .before .before .before .before .before .before .before .before .before .before .before .before .before .translate2 in
-    let q = c .before .before .before .before .before .before .before .q in
     let store = c .before .before .before .before .store in
+    let q = c .before .before .before .before .before .before .before .q in
+    let at-translate2 = c .before .before .before .before .before .before .before .before .before .before .before .before .before in
+    let translate2 = at-translate2 .translate2 in
+    let translate = at-translate2 .before .before .before .before .before .before .before .before .before .before .before .translate in
     omega (arith, at-within Word (translate .ensures .good) (translate2 .ensures) (q .given .1), store .kept .0)
 
 same-length-5 : tie.Need-same-length-5
 same-length-5 c =
-    let translate = c .before .before .before .before .before .before .before .before .before .before .before .before .before .before .before .before .before .before .before .before .before .before .before .before .before .before .before .before .translate in
-    let translate2 = c .before .before .before .before .before .before .before .before .before .before .before .before .before .before .before .before .before .translate2 in
-    let store = c .before .before .before .before .before .before .before .before .store in
     let store2 = c .before .before .before .store2 in
+    let at-store = c .before .before .before .before .before .before .before .before in
+    let store = at-store .store in
+    let at-translate2 = at-store .before .before .before .before .before .before .before .before .before in
+    let translate2 = at-translate2 .translate2 in
+    let translate = at-translate2 .before .before .before .before .before .before .before .before .before .before .before .translate in
     omega (arith, translate .kept .0, translate2 .kept .0, store .kept .0, store2 .kept .0)
 
 same-length-6 : tie.Need-same-length-6
 same-length-6 c =
-    let translate = c .before .before .before .before .before .before .before .before .before .before .before .before .before .before .before .before .before .before .before .before .before .before .before .before .before .before .before .before .translate in
-    let translate2 = c .before .before .before .before .before .before .before .before .before .before .before .before .before .before .before .before .before .translate2 in
+    let at-translate2 = c .before .before .before .before .before .before .before .before .before .before .before .before .before .before .before .before .before in
+    let translate2 = at-translate2 .translate2 in
+    let translate = at-translate2 .before .before .before .before .before .before .before .before .before .before .before .translate in
     omega (arith, translate .kept .1 .0, translate2 .kept .1 .0)
 
 returns-3 : tie.Need-returns-3
 returns-3 c =
-    let kernel-sp = c .before .before .before .before .before .before .before .before .before .before .before .before .before .before .before .before .before .before .before .before .before .before .before .before .before .before .before .before .before .before .before .before .before .before .kernel-sp in
-    let difference = c .before .before .before .before .before .before .before .before .before .before .before .before .before .before .before .before .before .before .before .before .before .before .before .before .before .before .before .before .before .before .before .before .before .difference in
-    let difference2 = c .before .before .before .before .before .before .before .before .before .before .before .before .before .before .before .before .before .before .before .before .before .before .before .before .before .before .before .before .before .before .before .before .difference2 in
-    let translate = c .before .before .before .before .before .before .before .before .before .before .before .before .before .before .before .before .before .before .before .before .before .before .before .before .before .before .before .before .translate in
-    let p = c .before .before .before .before .before .before .before .before .before .before .before .before .before .before .before .before .before .before .before .before .before .before .p in
-    let translate2 = c .before .before .before .before .before .before .before .before .before .before .before .before .before .before .before .before .before .translate2 in
-    let q = c .before .before .before .before .before .before .before .before .before .before .before .q in
+    let store2 = c .before .before .before .store2 in
     let trap-code = c .before .before .before .before .trap-code in
     let store = c .before .before .before .before .before .before .before .before .store in
-    let store2 = c .before .before .before .store2 in
-    λ con. deliver-both _ _ _ (kernel-sp .ensures) (difference .ensures) (difference2 .ensures) (translate .ensures) (p .given .1) (translate2 .ensures) (q .given .1) (trap-code .ensures) (store .ensures) (store2 .ensures) (c .entered .ensures)
+    let at-q = c .before .before .before .before .before .before .before .before .before .before .before in
+    let q = at-q .q in
+    let translate2 = at-q .before .before .before .before .before .before .translate2 in
+    let at-p = at-q .before .before .before .before .before .before .before .before .before .before .before in
+    let p = at-p .p in
+    let translate = at-p .before .before .before .before .before .before .translate in
+    let difference2 = at-p .before .before .before .before .before .before .before .before .before .before .difference2 in
+    let difference = at-p .before .before .before .before .before .before .before .before .before .before .before .difference in
+    let kernel-sp = at-p .before .before .before .before .before .before .before .before .before .before .before .before .kernel-sp in
+    λ con. deliver-both _ _ _ (kernel-sp .ensures) (difference .ensures) (difference2 .ensures) (translate .ensures) (p .given .1)
+    (translate2 .ensures) (q .given .1) (trap-code .ensures) (store .ensures) (store2 .ensures) (c .entered .ensures)
 
 pub deliver-spec : {M : Type 1} → statement M
 deliver-spec =

@@ -3,15 +3,6 @@ use borrow.Author.Needs.{needs}
 use Rattle.trap.proofs.entered.Statement.{statement}
 use Rattle.trap.proofs.entered.Tie as tie
 
-kernel-sp-requires : tie.Need-kernel-sp-requires
-kernel-sp-requires c κs = search needs
-
-difference-requires : tie.Need-difference-requires
-difference-requires c κs = search needs
-
-saved-usp-requires : tie.Need-saved-usp-requires
-saved-usp-requires c κs = search needs
-
 returns : tie.Need-returns
 returns c =
     let s5 = c .before .before .before .before .before in
@@ -20,5 +11,4 @@ returns c =
     rw (s6 .difference .ensures, s7 .kernel-sp .ensures, s5 .saved-usp .ensures)
 
 pub entered-spec : {M : Type 1} → statement M
-entered-spec =
-    tie.close (tie.spec kernel-sp-requires difference-requires saved-usp-requires returns)
+entered-spec = tie.close (tie.spec (λ c κs. search needs) (λ c κs. search needs) (λ c κs. search needs) returns)

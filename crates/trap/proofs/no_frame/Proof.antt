@@ -3,11 +3,8 @@ use borrow.Author.Needs.{needs}
 use Rattle.trap.proofs.no_frame.Statement.{statement}
 use Rattle.trap.proofs.no_frame.Tie as tie
 
-stopped-requires : tie.Need-stopped-requires
-stopped-requires c κs = search needs
-
 returns : tie.Need-returns
 returns c = c .stopped .ensures
 
 pub no-frame-spec : {M : Type 1} → statement M
-no-frame-spec = tie.close (tie.spec stopped-requires returns)
+no-frame-spec = tie.close (tie.spec (λ c κs. search needs) returns)

@@ -4,23 +4,11 @@ use Rattle.trap.proofs.Delivery.{trap-delivered, trap-masked}
 use Rattle.trap.proofs.trap.Statement.{statement}
 use Rattle.trap.proofs.trap.Tie as tie
 
-deliver-requires : tie.Need-deliver-requires
-deliver-requires c κs = search needs
-
-same-length : tie.Need-same-length
-same-length c = search needs
-
-same-length-2 : tie.Need-same-length-2
-same-length-2 c = search needs
-
 returns : tie.Need-returns
 returns c =
     let s4 = c .before .before .before .before in
     let s8 = s4 .before .before .before .before in
     λ con. trap-delivered _ _ _ (s8 .if1 .taken) (s4 .deliver .ensures con)
-
-masked-requires : tie.Need-masked-requires
-masked-requires c κs = search needs
 
 returns-2 : tie.Need-returns-2
 returns-2 c =
@@ -30,4 +18,10 @@ returns-2 c =
 pub trap-spec : {M : Type 1} → statement M
 trap-spec =
     tie.close
-    (tie.spec deliver-requires same-length same-length-2 returns masked-requires returns-2)
+    (tie.spec
+    (λ c κs. search needs)
+    (λ c. search needs)
+    (λ c. search needs)
+    returns
+    (λ c κs. search needs)
+    returns-2)

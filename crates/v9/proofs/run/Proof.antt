@@ -22,8 +22,10 @@ use prog.Wp.{Heap, Out, Env, Wp, WpFn, Tables, afterTurn, afterBlock, afterSeq, 
 use ghost.Atoms.{Atoms, sem}
 use contract.Monad.{Fun, fact}
 use contract.Running.{givenOf, tables, tablesOf}
-use types.Kit.{Given, Item, Sq, runs, anyQ, ‵, raw, some, later, atRet, _⊛_, ⋆, _$_, _∵_, !, qed, by, move, keep, use0, use1, use2, use3, drop, split, join, pick, rewrite, fsplit, fjoin, feqL, suffices, frame, await, done}
-use types.Run.{look, init, store, forget, stop, hop, fld, from, load, lit, addr, and-then, no-more, of-opd, bin, assigns, land, land-last, first, blocks, stays, leaves-loop, exec, returns, enter, alloc1, alloc0, params1, pass1, pass0, free1, free0, Below, again, loops}
+use types.Kit.{Given, Item, Sq, runs, anyQ, ‵, raw, some, later, atRet, _⊛_, ⋆, _$_, _∵_, !, qed, by, move, keep, use0, use1, use2, use3, drop}
+use types.Kit.{split, join, pick, rewrite, fsplit, fjoin, feqL, suffices, frame, await, done}
+use types.Run.{look, init, store, forget, stop, hop, fld, from, load, lit, addr, and-then, no-more, of-opd, bin, assigns, land, land-last, first}
+use types.Run.{blocks, stays, leaves-loop, exec, returns, enter, alloc1, alloc0, params1, pass1, pass0, free1, free0, Below, again, loops}
 use types.Part.{agg, whole, sub, look-in}
 use types.Tokens.{lft-new, lft-end}
 use sound.WpLaws.{fmOf, WpFn-mono}
@@ -89,7 +91,13 @@ use Rattle.v9.proofs.run.Code as code
 use Rattle.v9.proofs.run.Code.Mir as body
 
 abbrev stayed : Stays (f.ended .signature .params) (f.ended .kept)
-stayed = (stay-none (λ _. T.the-row) yes, (stay-slice (0 ∷ []) tt (plain (λ _. u8)), (stay-slice (1 ∷ []) tt (plain (λ _. u8)), (stay-none-slice (2 ∷ []) tt (plain (λ _. K.the-row)) yes, (stay-none (λ _. u64) yes, tt)))))
+stayed = (
+  stay-none (λ _. T.the-row) yes,
+  (
+    stay-slice (0 ∷ []) tt (plain (λ _. u8)),
+    (stay-slice (1 ∷ []) tt (plain (λ _. u8)), (stay-none-slice (2 ∷ []) tt (plain (λ _. K.the-row)) yes, (stay-none (λ _. u64) yes, tt))),
+  ),
+)
 
 -- by how a test came out
 choose : {X : Type 1} (t : Bool) → (t ≡ true → X) → (t ≡ false → X) → X
@@ -128,7 +136,9 @@ module _ {M : Type 1} (𝓤 : URA M) (H : Heap 𝓤) (A : Atoms 𝓤) (at-mem : 
   abbrev Proceed : Contract 𝓤
   Proceed = tripleOf 𝓤 H A proceed.signature (proceed.spec 𝓤 H A at-mem run)
 
-module _ {M : Type 1} (𝓤 : URA M) (H : Heap 𝓤) (A : Atoms 𝓤) (W : Given 𝓤 H A) (at-mem : Memory → SProp 𝓤) (run : Routine → Fun 𝓤) (κm κc κk : Lft) (qm qc qk : Share) (h : Machine) (bm om : ℕ) (γm : GName) (ys : List ℕ) (bc oc : ℕ) (γc : GName) (cs : List ℕ) (bk ok : ℕ) (γk : GName) (ks : List Key) (budget : ℕ) (h-is : Is T.the-row h (machM h ∷ [])) (budget-fits : budget < 2 ^ 64) where
+module _ {M : Type 1} (𝓤 : URA M) (H : Heap 𝓤) (A : Atoms 𝓤) (W : Given 𝓤 H A) (at-mem : Memory → SProp 𝓤) (run : Routine → Fun 𝓤) (κm κc κk : Lft)
+    (qm qc qk : Share) (h : Machine) (bm om : ℕ) (γm : GName) (ys : List ℕ) (bc oc : ℕ) (γc : GName) (cs : List ℕ) (bk ok : ℕ) (γk : GName)
+    (ks : List Key) (budget : ℕ) (h-is : Is T.the-row h (machM h ∷ [])) (budget-fits : budget < 2 ^ 64) where
   -- memory and console under the name δ, at a list; and the keys
   abbrev xm : GName → List ℕ → RefT (List ℕ)
   xm δ l = record { ptr = (bm, om); name = δ; now = l }
@@ -174,7 +184,8 @@ module _ {M : Type 1} (𝓤 : URA M) (H : Heap 𝓤) (A : Atoms 𝓤) (W : Given
       → ent 𝓤 (⋆ 𝓤 H A (‵ (flft κm qm) ∷ ‵ (flft κc qc) ∷ ‵ (flft κk qk) ∷ Mem zs ∷ Con ds ∷ Keys ∷ [])) (Post (machR r))
   exits r zs ds e lz ld is =
       qed W (‵ (flft κm qm) ∷ ‵ (flft κc qc) ∷ ‵ (flft κk qk) ∷ Mem zs ∷ Con ds ∷ Keys ∷ []) ∵
-      suffices ! _ (ends-at 𝓤 H A f.ended stayed (f.clauses 𝓤 H A at-mem run) W (((κm, (κc, (κk, tt))), (qm, (qc, (qk, tt))), tt, a, at), tt) (machR r) r (tt, (zs, (ds, (tt, (tt, tt))))) (tt, (lz, (ld, (tt, (tt, tt)))))) $ says ! e $
+      suffices ! _ (ends-at 𝓤 H A f.ended stayed (f.clauses 𝓤 H A at-mem run) W (((κm, (κc, (κk, tt))), (qm, (qc, (qk, tt))), tt, a, at), tt)
+      (machR r) r (tt, (zs, (ds, (tt, (tt, tt))))) (tt, (lz, (ld, (tt, (tt, tt)))))) $ says ! e $
       nothing ! $ move ! (3 ∷ 0 ∷ []) $ join ! $ move ! (2 ∷ 0 ∷ []) $ join ! $ move ! (1 ∷ 0 ∷ []) $ join ! $ frame ! $
       nothing ! $ owned ! u64 (Is u64) (uint-makes 𝓤 H A W w64) budget _ (refl, budget-fits) $ fjoin ! $ move ! (3 ∷ 0 ∷ []) $ fjoin ! $ move ! (2 ∷ 0 ∷ []) $ fjoin ! $ move ! (1 ∷ 0 ∷ []) $ fjoin ! $
       owned ! T.the-row (Is T.the-row) (LL.makes T.the-type T′.the-plain 𝓤 H A) h _ h-is $ fjoin ! $ frame ! $ owned ! R.the-row (Is R.the-row) (LL.makes R.the-type R′.the-plain 𝓤 H A) r _ is $ done !
@@ -197,8 +208,10 @@ module _ {M : Type 1} (𝓤 : URA M) (H : Heap 𝓤) (A : Atoms 𝓤) (W : Given
   to-begin s = ((tt, tt, tt, begun s, (machM h ∷ [], (vint w64 (length ys) ∷ [], (vint w64 (length cs) ∷ [], (vbool s ∷ [], (vint w64 (length ks) ∷ [], (vint w64 budget ∷ [], tt))))))), tt)
 
   asked-begin : (s : Bool) → length ys < 2 ^ 64 → length cs < 2 ^ 64 → length ks < 2 ^ 64 → ent 𝓤 (emp 𝓤) (Begin 𝓤 H A at-mem run .pre (to-begin s))
-  asked-begin s gm gc gk = qed W [] ∵ nothing ! $ owned ! u64 (Is u64) (uint-makes 𝓤 H A W w64) budget _ (refl, budget-fits) $ fjoin ! $ owned ! usize (Is usize) (uint-makes 𝓤 H A W w64) (length ks) _ (refl, gk) $ fjoin ! $
-      owned ! Boolean (Is Boolean) (bool-makes 𝓤 H A W) s _ refl $ fjoin ! $ owned ! usize (Is usize) (uint-makes 𝓤 H A W w64) (length cs) _ (refl, gc) $ fjoin ! $ owned ! usize (Is usize) (uint-makes 𝓤 H A W w64) (length ys) _ (refl, gm) $ fjoin ! $
+  asked-begin s gm gc gk = qed W [] ∵ nothing ! $ owned ! u64 (Is u64) (uint-makes 𝓤 H A W w64) budget _ (refl, budget-fits) $ fjoin ! $ owned !
+      usize (Is usize) (uint-makes 𝓤 H A W w64) (length ks) _ (refl, gk) $ fjoin ! $
+      owned ! Boolean (Is Boolean) (bool-makes 𝓤 H A W) s _ refl $ fjoin ! $ owned ! usize (Is usize) (uint-makes 𝓤 H A W w64) (length cs) _
+      (refl, gc) $ fjoin ! $ owned ! usize (Is usize) (uint-makes 𝓤 H A W w64) (length ys) _ (refl, gm) $ fjoin ! $
       owned ! T.the-row (Is T.the-row) (LL.makes T.the-type T′.the-plain 𝓤 H A) h _ h-is $ fjoin ! $ nothing ! $ join ! $ frame ! $ done !
 
   begin-of : (s : Bool) (r : UnderWay) → ent 𝓤 (ensured 𝓤 H A begin.ended (begin.clauses 𝓤 H A at-mem run) tt (begun s) tt r) (fact 𝓤 (r ≡ beginOf h (length ys) (length cs) s (length ks) budget))
@@ -209,7 +222,8 @@ module _ {M : Type 1} (𝓤 : URA M) (H : Heap 𝓤) (A : Atoms 𝓤) (W : Given
   to-next n = (((κk, tt), (qk, tt), tt, (xk, (n, tt)), (sk ∷ [], (vint w64 n ∷ [], tt))), tt)
 
   asked-next : (n : ℕ) → n < 2 ^ 64 → ent 𝓤 (⋆ 𝓤 H A (‵ (flft κk qk) ∷ Keys ∷ [])) (NextKey 𝓤 H A at-mem run .pre (to-next n))
-  asked-next n g = qed W (‵ (flft κk qk) ∷ Keys ∷ []) ∵ nothing ! $ owned ! usize (Is usize) (uint-makes 𝓤 H A W w64) n _ (refl, g) $ fjoin ! $ move ! (2 ∷ 0 ∷ []) $ fjoin ! $ nothing ! $ move ! (2 ∷ 0 ∷ []) $ join ! $ join ! $ frame ! $ done !
+  asked-next n g = qed W (‵ (flft κk qk) ∷ Keys ∷ []) ∵ nothing ! $ owned ! usize (Is usize) (uint-makes 𝓤 H A W w64) n _ (refl, g) $ fjoin ! $ move
+      ! (2 ∷ 0 ∷ []) $ fjoin ! $ nothing ! $ move ! (2 ∷ 0 ∷ []) $ join ! $ join ! $ frame ! $ done !
 
   next-of : (n : ℕ) (r : Next) → ent 𝓤 (ensured 𝓤 H A next-key.ended (next-key.clauses 𝓤 H A at-mem run) (κk, tt) (xk, (n, tt)) tt r) (fact 𝓤 (r ≡ nextOf ks n))
   next-of n r = exE 𝓤 _ (λ ws. snd∗ 𝓤 (sem 𝓤 H A (lasts next-key.ended (κk, tt) (xk, (n, tt)) ws)) (fact 𝓤 (r ≡ nextOf ks n)))
@@ -251,7 +265,8 @@ module _ {M : Type 1} (𝓤 : URA M) (H : Heap 𝓤) (A : Atoms 𝓤) (W : Given
     Tokens = ‵ (flft (ν ∷ []) fullShare) ⊛ ‵ (flft (ν′ ∷ []) fullShare) ⊛ ‵ ftrue
 
     asked-proceed : Able (t .g) (length (t .zs)) × KeyFits (n .some) (t .g .taken) → ent 𝓤 (⋆ 𝓤 H A (Tokens ∷ (MemAgain ⊛ ConAgain) ∷ [])) (Proceed 𝓤 H A at-mem run .pre to-proceed)
-    asked-proceed l = qed W (Tokens ∷ (MemAgain ⊛ ConAgain) ∷ []) ∵ says ! l $ frame ! $ split ! $ nothing ! $ owned ! N.the-row (Is N.the-row) (LL.makes N.the-type N′.the-plain 𝓤 H A) n _ n-is $ fjoin ! $ move ! (2 ∷ 0 ∷ []) $ fjoin ! $ move ! (1 ∷ 0 ∷ []) $ fjoin ! $
+    asked-proceed l = qed W (Tokens ∷ (MemAgain ⊛ ConAgain) ∷ []) ∵ says ! l $ frame ! $ split ! $ nothing ! $ owned ! N.the-row (Is N.the-row)
+        (LL.makes N.the-type N′.the-plain 𝓤 H A) n _ n-is $ fjoin ! $ move ! (2 ∷ 0 ∷ []) $ fjoin ! $ move ! (1 ∷ 0 ∷ []) $ fjoin ! $
         owned ! G.the-row (Is G.the-row) (LL.makes G.the-type G′.the-plain 𝓤 H A) (t .g) _ (t .g-is) $ fjoin ! $ done !
 
     -- what `proceed` ensures
@@ -295,20 +310,34 @@ module _ {M : Type 1} (𝓤 : URA M) (H : Heap 𝓤) (A : Atoms 𝓤) (W : Given
   abbrev refTy : Ty
   refTy = tyRef erased mut (tyInt w8)
 
-  module _ (𝓣 : Tables 𝓤 H) (known-next : Triple 𝓤 (𝓣 .C #keys·next-key) (NextKey 𝓤 H A at-mem run)) (known-proceed : Triple 𝓤 (𝓣 .C #runs·proceed) (Proceed 𝓤 H A at-mem run)) (gm : Room u8 (length ys)) (gc : Room u8 (length cs)) (gk : Room K.the-row (length ks)) (l₀ l₁ l₂ l₃ l₄ l₅ l₆ l₇ l₈ l₉ l₁₀ l₁₁ l₁₂ l₁₃ l₁₄ l₁₅ l₁₆ : ℕ) where
+  module _ (𝓣 : Tables 𝓤 H) (known-next : Triple 𝓤 (𝓣 .C #keys·next-key) (NextKey 𝓤 H A at-mem run))
+      (known-proceed : Triple 𝓤 (𝓣 .C #runs·proceed) (Proceed 𝓤 H A at-mem run)) (gm : Room u8 (length ys)) (gc : Room u8 (length cs))
+      (gk : Room K.the-row (length ks)) (l₀ l₁ l₂ l₃ l₄ l₅ l₆ l₇ l₈ l₉ l₁₀ l₁₁ l₁₂ l₁₃ l₁₄ l₁₅ l₁₆ : ℕ) where
     abbrev En : Env 𝓤 H
-    En = (R′.mir, l₀) ∷ (T′.mir, l₁) ∷ (memTy, l₂) ∷ (conTy, l₃) ∷ (keysTy, l₄) ∷ (word, l₅) ∷ (tyBool, l₆) ∷ (G′.mir, l₇) ∷ (N′.mir, l₈) ∷ (word, l₉) ∷ (word, l₁₀) ∷ (word, l₁₁) ∷ (tyBool, l₁₂) ∷ (refTy, l₁₃) ∷ (sliceTy refTy, l₁₄) ∷ (refTy, l₁₅) ∷ (sliceTy refTy, l₁₆) ∷ []
+    En = (R′.mir, l₀) ∷ (T′.mir, l₁) ∷ (memTy, l₂) ∷ (conTy, l₃) ∷ (keysTy, l₄) ∷ (word, l₅) ∷ (tyBool, l₆) ∷ (G′.mir, l₇) ∷ (N′.mir, l₈) ∷
+        (word, l₉) ∷ (word, l₁₀) ∷ (word, l₁₁) ∷ (tyBool, l₁₂) ∷ (refTy, l₁₃) ∷ (sliceTy refTy, l₁₄) ∷ (refTy, l₁₅) ∷ (sliceTy refTy, l₁₆) ∷ []
 
     abbrev At : Turn → List (Item 𝓤)
     At t = ‵ (flft κm qm) ∷ ‵ (flft κc qc) ∷ ‵ (flft κk qk) ∷ Mem (t .zs) ∷ Con (t .ds) ∷ Keys
-        ∷ ‵ (froom (sliceTy refTy) l₁₆ 0) ∷ ‵ (fdies (sliceTy refTy) l₁₆) ∷ ‵ (froom refTy l₁₅ 0) ∷ ‵ (fdies refTy l₁₅) ∷ ‵ (froom (sliceTy refTy) l₁₄ 0) ∷ ‵ (fdies (sliceTy refTy) l₁₄) ∷ ‵ (froom refTy l₁₃ 0) ∷ ‵ (fdies refTy l₁₃) ∷ ‵ (froom tyBool l₁₂ 0) ∷ ‵ (fdies tyBool l₁₂) ∷ ‵ (froom word l₁₁ 0) ∷ ‵ (fdies word l₁₁) ∷ ‵ (froom word l₁₀ 0) ∷ ‵ (fdies word l₁₀) ∷ ‵ (froom word l₉ 0) ∷ ‵ (fdies word l₉) ∷ ‵ (froom N′.mir l₈ 0) ∷ ‵ (fdies N′.mir l₈) ∷ ‵ (fat fullShare G′.mir l₇ 0 (machG (t .g))) ∷ ‵ (fdies G′.mir l₇) ∷ ‵ (froom tyBool l₆ 0) ∷ ‵ (fdies tyBool l₆) ∷ ‵ (fat fullShare word l₅ 0 (vint w64 budget)) ∷ ‵ (fdies word l₅) ∷ ‵ (fat fullShare keysTy l₄ 0 sk) ∷ ‵ (fdies keysTy l₄) ∷ ‵ (fat fullShare conTy l₃ 0 sc) ∷ ‵ (fdies conTy l₃) ∷ ‵ (fat fullShare memTy l₂ 0 sm) ∷ ‵ (fdies memTy l₂) ∷ ‵ (fat fullShare T′.mir l₁ 0 (machM h)) ∷ ‵ (fdies T′.mir l₁) ∷ ‵ (froom R′.mir l₀ 0) ∷ ‵ (fdies R′.mir l₀) ∷ []
+        ∷ ‵ (froom (sliceTy refTy) l₁₆ 0) ∷ ‵ (fdies (sliceTy refTy) l₁₆) ∷ ‵ (froom refTy l₁₅ 0) ∷ ‵ (fdies refTy l₁₅) ∷ ‵
+        (froom (sliceTy refTy) l₁₄ 0) ∷ ‵ (fdies (sliceTy refTy) l₁₄) ∷ ‵ (froom refTy l₁₃ 0) ∷ ‵ (fdies refTy l₁₃) ∷ ‵ (froom tyBool l₁₂ 0) ∷ ‵
+        (fdies tyBool l₁₂) ∷ ‵ (froom word l₁₁ 0) ∷ ‵ (fdies word l₁₁) ∷ ‵ (froom word l₁₀ 0) ∷ ‵ (fdies word l₁₀) ∷ ‵ (froom word l₉ 0) ∷ ‵
+        (fdies word l₉) ∷ ‵ (froom N′.mir l₈ 0) ∷ ‵ (fdies N′.mir l₈) ∷ ‵ (fat fullShare G′.mir l₇ 0 (machG (t .g))) ∷ ‵ (fdies G′.mir l₇) ∷ ‵
+        (froom tyBool l₆ 0) ∷ ‵ (fdies tyBool l₆) ∷ ‵ (fat fullShare word l₅ 0 (vint w64 budget)) ∷ ‵ (fdies word l₅) ∷ ‵
+        (fat fullShare keysTy l₄ 0 sk) ∷ ‵ (fdies keysTy l₄) ∷ ‵ (fat fullShare conTy l₃ 0 sc) ∷ ‵ (fdies conTy l₃) ∷ ‵ (fat fullShare memTy l₂ 0 sm)
+        ∷ ‵ (fdies memTy l₂) ∷ ‵ (fat fullShare T′.mir l₁ 0 (machM h)) ∷ ‵ (fdies T′.mir l₁) ∷ ‵ (froom R′.mir l₀ 0) ∷ ‵ (fdies R′.mir l₀) ∷ []
 
     -- what follows the loop
     leaves : (t : Turn) → ltb 0 (t .g .left) ≡ false → Sq W (At t) (runs (𝓣 .C) (𝓣 .Λ) En body.t-7 (atRet En Post))
     leaves t e =
-        assigns ! (of-opd ! (load ! (from ! (fld ! refl (stop !))) (look-in ! 24 (sub ! 2 refl (whole !))))) (from ! (stop !)) (init ! 38 refl (LL.lawful R.the-type R′.the-laws 𝓤 H A W .typed (t .g .ran) _ (ran-is t) .0)) $
+        assigns ! (of-opd ! (load ! (from ! (fld ! refl (stop !))) (look-in ! 24 (sub ! 2 refl (whole !))))) (from ! (stop !))
+        (init ! 38 refl (LL.lawful R.the-type R′.the-laws 𝓤 H A W .typed (t .g .ran) _ (ran-is t) .0)) $
         returns ! (look ! 38 refl) $ forget ! 24 refl $ forget ! 28 refl $ forget ! 30 refl $ forget ! 32 refl $ forget ! 34 refl $ forget ! 36 refl $ forget ! 38 refl $
-        move ! (38 ∷ 39 ∷ []) $ free1 ! $ move ! (36 ∷ 37 ∷ []) $ free1 ! $ move ! (34 ∷ 35 ∷ []) $ free1 ! $ move ! (32 ∷ 33 ∷ []) $ free1 ! $ move ! (30 ∷ 31 ∷ []) $ free1 ! $ move ! (28 ∷ 29 ∷ []) $ free1 ! $ move ! (26 ∷ 27 ∷ []) $ free1 ! $ move ! (24 ∷ 25 ∷ []) $ free1 ! $ move ! (22 ∷ 23 ∷ []) $ free1 ! $ move ! (20 ∷ 21 ∷ []) $ free1 ! $ move ! (18 ∷ 19 ∷ []) $ free1 ! $ move ! (16 ∷ 17 ∷ []) $ free1 ! $ move ! (14 ∷ 15 ∷ []) $ free1 ! $ move ! (12 ∷ 13 ∷ []) $ free1 ! $ move ! (10 ∷ 11 ∷ []) $ free1 ! $ move ! (8 ∷ 9 ∷ []) $ free1 ! $ move ! (6 ∷ 7 ∷ []) $ free1 ! $ free0 ! $
+        move ! (38 ∷ 39 ∷ []) $ free1 ! $ move ! (36 ∷ 37 ∷ []) $ free1 ! $ move ! (34 ∷ 35 ∷ []) $ free1 ! $ move ! (32 ∷ 33 ∷ []) $ free1 ! $ move
+        ! (30 ∷ 31 ∷ []) $ free1 ! $ move ! (28 ∷ 29 ∷ []) $ free1 ! $ move ! (26 ∷ 27 ∷ []) $ free1 ! $ move ! (24 ∷ 25 ∷ []) $ free1 ! $ move !
+        (22 ∷ 23 ∷ []) $ free1 ! $ move ! (20 ∷ 21 ∷ []) $ free1 ! $ move ! (18 ∷ 19 ∷ []) $ free1 ! $ move ! (16 ∷ 17 ∷ []) $ free1 ! $ move !
+        (14 ∷ 15 ∷ []) $ free1 ! $ move ! (12 ∷ 13 ∷ []) $ free1 ! $ move ! (10 ∷ 11 ∷ []) $ free1 ! $ move ! (8 ∷ 9 ∷ []) $ free1 ! $ move !
+        (6 ∷ 7 ∷ []) $ free1 ! $ free0 ! $
         by ! (exits (t .g .ran) (t .zs) (t .ds) (over t e) (t .lz) (t .ld) (ran-is t))
 
     -- a turn's postcondition: it ends with less left, or the loop is left and the rest of the body runs
@@ -322,29 +351,50 @@ module _ {M : Type 1} (𝓤 : URA M) (H : Heap 𝓤) (A : Atoms 𝓤) (W : Given
         choose (ltb 0 (t .g .left))
         (λ e. rewrite ! 14 (λ (c : Bool). ‵ (fat fullShare tyBool l₁₂ 0 (vbool c))) e refl $ stays ! (load ! (from ! (stop !)) (look ! 14 refl)) $
         -- the next key
-        move ! (5 ∷ []) $ use1 W (Keys ⊛ Keys) (shr-slice-copy 𝓤 H A W (named 2) κk K.the-row .twice xk (sk ∷ [])) $ split ! $ move ! (4 ∷ 0 ∷ []) $ use2 W (raw (NextKey 𝓤 H A at-mem run .pre (to-next (t .g .taken)))) (asked-next (t .g .taken) (taken-fits t)) $
-        calls-at ! (fmOf 𝓤 H (W .laws) 𝓣) (NextKey 𝓤 H A at-mem run) known-next (to-next (t .g .taken)) (and-then ! (load ! (from ! (stop !)) (look ! 30 refl)) (and-then ! (load ! (from ! (fld ! refl (stop !))) (look-in ! 24 (sub ! 0 refl (whole !)))) (no-more !))) (λ v.
-        use1 W (later (some (λ (n : Next). ((‵ (flft κk qk) ⊛ ‵ ftrue) ⊛ ‵ (N.the-row .own n (v ∷ []))) ⊛ raw (ensured 𝓤 H A next-key.ended (next-key.clauses 𝓤 H A at-mem run) (κk, tt) (xk, (t .g .taken, tt)) tt n)))) (id⊢ 𝓤 _) $ await ! tt $ pick ! (λ n.
+        move ! (5 ∷ []) $ use1 W (Keys ⊛ Keys) (shr-slice-copy 𝓤 H A W (named 2) κk K.the-row .twice xk (sk ∷ [])) $ split ! $ move ! (4 ∷ 0 ∷ []) $
+        use2 W (raw (NextKey 𝓤 H A at-mem run .pre (to-next (t .g .taken)))) (asked-next (t .g .taken) (taken-fits t)) $
+        calls-at ! (fmOf 𝓤 H (W .laws) 𝓣) (NextKey 𝓤 H A at-mem run) known-next (to-next (t .g .taken))
+        (and-then ! (load ! (from ! (stop !)) (look ! 30 refl)) (and-then !
+        (load ! (from ! (fld ! refl (stop !))) (look-in ! 24 (sub ! 0 refl (whole !)))) (no-more !))) (λ v.
+        use1 W (later (some (λ (n : Next). ((‵ (flft κk qk) ⊛ ‵ ftrue) ⊛ ‵ (N.the-row .own n (v ∷ []))) ⊛ raw
+        (ensured 𝓤 H A next-key.ended (next-key.clauses 𝓤 H A at-mem run) (κk, tt) (xk, (t .g .taken, tt)) tt n)))) (id⊢ 𝓤 _) $ await ! tt $ pick !
+        (λ n.
         split ! $ move ! (1 ∷ []) $ use1 W (raw (fact 𝓤 (n ≡ nextOf ks (t .g .taken)))) (next-of (t .g .taken) n) $ heard ! (n ≡ nextOf ks (t .g .taken)) (λ is-next. split ! $ move ! (1 ∷ []) $
         peeks ! N.the-row (Is N.the-row) (shows 𝓤 H A N.the-row) n (v ∷ []) (λ n-was.
-        land ! (from ! (stop !)) (init ! 23 refl (LL.lawful N.the-type N′.the-laws 𝓤 H A W .typed n _ n-was .0)) $ rewrite ! 23 (λ (u : Val). ‵ (fat fullShare N′.mir l₈ 0 u)) (ap only (LL.tells N.the-type N′.the-laws n _ n-was)) refl $ drop ! $ split ! $ move ! (1 ∷ []) $ drop ! $ move ! (2 ∷ 3 ∷ 0 ∷ 4 ∷ 5 ∷ 1 ∷ []) $
+        land ! (from ! (stop !)) (init ! 23 refl (LL.lawful N.the-type N′.the-laws 𝓤 H A W .typed n _ n-was .0)) $ rewrite ! 23
+        (λ (u : Val). ‵ (fat fullShare N′.mir l₈ 0 u)) (ap only (LL.tells N.the-type N′.the-laws n _ n-was)) refl $ drop ! $ split ! $ move !
+        (1 ∷ []) $ drop ! $ move ! (2 ∷ 3 ∷ 0 ∷ 4 ∷ 5 ∷ 1 ∷ []) $
         -- memory and console are lent again
         assigns ! (addr ! (from ! (fld ! refl (hop ! (look-in ! 34 (sub ! 0 refl (whole !))) (stop !))))) (from ! (stop !)) (init ! 12 refl (tt, tt)) $
-        assigns ! (agg ! (and-then ! (load ! (from ! (stop !)) (look ! 12 refl)) (and-then ! (load ! (from ! (fld ! refl (stop !))) (look-in ! 34 (sub ! 1 refl (whole !)))) (no-more !)))) (from ! (stop !)) (init ! 10 refl (tt, (tt, (record { fits = gm .0 }, tt)))) $
+        assigns ! (agg ! (and-then ! (load ! (from ! (stop !)) (look ! 12 refl))
+        (and-then ! (load ! (from ! (fld ! refl (stop !))) (look-in ! 34 (sub ! 1 refl (whole !)))) (no-more !)))) (from ! (stop !))
+        (init ! 10 refl (tt, (tt, (record { fits = gm .0 }, tt)))) $
         assigns ! (addr ! (from ! (fld ! refl (hop ! (look-in ! 32 (sub ! 0 refl (whole !))) (stop !))))) (from ! (stop !)) (init ! 8 refl (tt, tt)) $
-        assigns ! (agg ! (and-then ! (load ! (from ! (stop !)) (look ! 8 refl)) (and-then ! (load ! (from ! (fld ! refl (stop !))) (look-in ! 32 (sub ! 1 refl (whole !)))) (no-more !)))) (from ! (stop !)) (init ! 6 refl (tt, (tt, (record { fits = gc .0 }, tt)))) $
+        assigns ! (agg ! (and-then ! (load ! (from ! (stop !)) (look ! 8 refl))
+        (and-then ! (load ! (from ! (fld ! refl (stop !))) (look-in ! 32 (sub ! 1 refl (whole !)))) (no-more !)))) (from ! (stop !))
+        (init ! 6 refl (tt, (tt, (record { fits = gc .0 }, tt)))) $
         lft-new ! tt (λ ν. move ! (4 ∷ 1 ∷ []) $
-        use2 W (later (some (λ (δ : GName). ‵ (MutSlice (named 0) (ν ∷ []) u8 .own (xm δ (t .zs)) (sm ∷ [])) ⊛ ‵ (LentAgain u8 κm (ν ∷ []) qm γm bm om δ (t .zs))))) (lends-again-at u8 κm (ν ∷ []) qm γm bm om 𝓤 H A W (named 0) (named 0) (t .zs) (length ys) (t .lz)) $ await ! tt $ pick ! (λ δ. split ! $
+        use2 W (later (some (λ (δ : GName). ‵ (MutSlice (named 0) (ν ∷ []) u8 .own (xm δ (t .zs)) (sm ∷ [])) ⊛ ‵
+        (LentAgain u8 κm (ν ∷ []) qm γm bm om δ (t .zs))))) (lends-again-at u8 κm (ν ∷ []) qm γm bm om 𝓤 H A W (named 0) (named 0) (t .zs)
+        (length ys) (t .lz)) $ await ! tt $ pick ! (λ δ. split ! $
         -- [memory lent again; what its lender keeps; ν's token; the console's token; the keys' token; console; keys; _16; …]
         lft-new ! tt (λ ν′. move ! (6 ∷ 4 ∷ []) $
-        use2 W (later (some (λ (δ′ : GName). ‵ (MutSlice (named 1) (ν′ ∷ []) u8 .own (xc δ′ (t .ds)) (sc ∷ [])) ⊛ ‵ (LentAgain u8 κc (ν′ ∷ []) qc γc bc oc δ′ (t .ds))))) (lends-again-at u8 κc (ν′ ∷ []) qc γc bc oc 𝓤 H A W (named 1) (named 1) (t .ds) (length cs) (t .ld)) $ await ! tt $ pick ! (λ δ′. split ! $
+        use2 W (later (some (λ (δ′ : GName). ‵ (MutSlice (named 1) (ν′ ∷ []) u8 .own (xc δ′ (t .ds)) (sc ∷ [])) ⊛ ‵
+        (LentAgain u8 κc (ν′ ∷ []) qc γc bc oc δ′ (t .ds))))) (lends-again-at u8 κc (ν′ ∷ []) qc γc bc oc 𝓤 H A W (named 1) (named 1) (t .ds)
+        (length cs) (t .ld)) $ await ! tt $ pick ! (λ δ′. split ! $
         -- [console lent again; what its lender keeps; ν′'s token; memory lent again; what its lender keeps; ν's token; the keys' token; keys; _16; …]
         move ! (3 ∷ 0 ∷ []) $ join ! $ nothing ! $ move ! (3 ∷ 0 ∷ []) $ join ! $ move ! (4 ∷ 0 ∷ []) $ join ! $
         use2 W (raw (Proceed 𝓤 H A at-mem run .pre (to-proceed t n (n-is n v n-was) ν ν′ δ δ′))) (asked-proceed t n (n-is n v n-was) ν ν′ δ δ′ (ready t n e is-next (gk .0))) $
         -- [the call's; what the console's lender keeps; what memory's keeps; the keys' token; keys; _16; …]
-        calls-at-last ! (fmOf 𝓤 H (W .laws) 𝓣) (Proceed 𝓤 H A at-mem run) known-proceed (to-proceed t n (n-is n v n-was) ν ν′ δ δ′) (and-then ! (load ! (from ! (stop !)) (look ! 23 refl)) (and-then ! (load ! (from ! (stop !)) (look ! 9 refl)) (and-then ! (load ! (from ! (stop !)) (look ! 5 refl)) (and-then ! (load ! (from ! (stop !)) (look ! 21 refl)) (no-more !))))) (λ w.
-        use1 W (later (some (λ (r : UnderWay). (Tokens t n (n-is n v n-was) ν ν′ δ δ′ ⊛ ‵ (G.the-row .own r (w ∷ []))) ⊛ raw (ensured 𝓤 H A proceed.ended (proceed.clauses 𝓤 H A at-mem run) (ν ∷ [], (ν′ ∷ [], tt)) (passed t n (n-is n v n-was) ν ν′ δ δ′) tt r)))) (id⊢ 𝓤 _) $ await ! tt $ pick ! (λ r.
-        split ! $ move ! (1 ∷ []) $ use1 W (some (λ (ls : Unit {0} × (List ℕ × (List ℕ × (Unit {0} × Unit {0})))). ‵ (lasts proceed.ended (ν ∷ [], (ν′ ∷ [], tt)) (passed t n (n-is n v n-was) ν ν′ δ δ′) ls) ⊛ raw (fact 𝓤 (Said t n (n-is n v n-was) ν ν′ δ δ′ r (ls .1 .0) (ls .1 .1 .0))))) (id⊢ 𝓤 _) $ pick ! (λ ls.
+        calls-at-last ! (fmOf 𝓤 H (W .laws) 𝓣) (Proceed 𝓤 H A at-mem run) known-proceed (to-proceed t n (n-is n v n-was) ν ν′ δ δ′)
+        (and-then ! (load ! (from ! (stop !)) (look ! 23 refl)) (and-then ! (load ! (from ! (stop !)) (look ! 9 refl))
+        (and-then ! (load ! (from ! (stop !)) (look ! 5 refl)) (and-then ! (load ! (from ! (stop !)) (look ! 21 refl)) (no-more !))))) (λ w.
+        use1 W (later (some (λ (r : UnderWay). (Tokens t n (n-is n v n-was) ν ν′ δ δ′ ⊛ ‵ (G.the-row .own r (w ∷ []))) ⊛ raw
+        (ensured 𝓤 H A proceed.ended (proceed.clauses 𝓤 H A at-mem run) (ν ∷ [], (ν′ ∷ [], tt)) (passed t n (n-is n v n-was) ν ν′ δ δ′) tt r))))
+        (id⊢ 𝓤 _) $ await ! tt $ pick ! (λ r.
+        split ! $ move ! (1 ∷ []) $ use1 W (some (λ (ls : Unit {0} × (List ℕ × (List ℕ × (Unit {0} × Unit {0})))). ‵
+        (lasts proceed.ended (ν ∷ [], (ν′ ∷ [], tt)) (passed t n (n-is n v n-was) ν ν′ δ δ′) ls) ⊛ raw
+        (fact 𝓤 (Said t n (n-is n v n-was) ν ν′ δ δ′ r (ls .1 .0) (ls .1 .1 .0))))) (id⊢ 𝓤 _) $ pick ! (λ ls.
         split ! $ move ! (1 ∷ []) $ heard ! (Said t n (n-is n v n-was) ν ν′ δ δ′ r (ls .1 .0) (ls .1 .1 .0)) (λ said.
         fsplit ! $ drop ! $ fsplit ! $ fsplit ! $ move ! (1 ∷ []) $ feqL ! (λ lm. move ! (1 ∷ []) $ fsplit ! $ fsplit ! $ move ! (1 ∷ []) $ feqL ! (λ lc.
         -- [the console's last list; …; memory's; the tokens and the result; what the console's lender keeps; what memory's keeps; the keys' token; keys; _16; …]
@@ -353,55 +403,108 @@ module _ {M : Type 1} (𝓤 : URA M) (H : Heap 𝓤) (A : Atoms 𝓤) (W : Given
         split ! $ lft-end ! tt $ move ! (0 ∷ 6 ∷ 4 ∷ []) $
         use3 W (later (Mem (ls .1 .0) ⊛ ‵ (flft κm qm))) (comes-back-at u8 κm (ν ∷ []) qm γm bm om 𝓤 H A W (named 0) (named 0) (t .zs) (length ys) (t .lz) δ (ls .1 .0) gm lm) $ await ! tt $ split ! $
         move ! (2 ∷ []) $ split ! $ lft-end ! tt $ move ! (0 ∷ 6 ∷ 4 ∷ []) $
-        use3 W (later (Con (ls .1 .1 .0) ⊛ ‵ (flft κc qc))) (comes-back-at u8 κc (ν′ ∷ []) qc γc bc oc 𝓤 H A W (named 1) (named 1) (t .ds) (length cs) (t .ld) δ′ (ls .1 .1 .0) gc lc) $ await ! tt $ split ! $
+        use3 W (later (Con (ls .1 .1 .0) ⊛ ‵ (flft κc qc))) (comes-back-at u8 κc (ν′ ∷ []) qc γc bc oc 𝓤 H A W (named 1) (named 1) (t .ds)
+        (length cs) (t .ld) δ′ (ls .1 .1 .0) gc lc) $ await ! tt $ split ! $
         move ! (2 ∷ 5 ∷ []) $ drop ! $ drop ! $ move ! (3 ∷ 1 ∷ 4 ∷ 2 ∷ 0 ∷ 5 ∷ []) $
-        land-last ! (from ! (stop !)) (store ! 24 refl (LL.lawful G.the-type G′.the-laws 𝓤 H A W .typed r _ is .0)) $ rewrite ! 24 (λ (u : Val). ‵ (fat fullShare G′.mir l₇ 0 u)) (ap only (LL.tells G.the-type G′.the-laws r _ is)) refl $
+        land-last ! (from ! (stop !)) (store ! 24 refl (LL.lawful G.the-type G′.the-laws 𝓤 H A W .typed r _ is .0)) $ rewrite ! 24
+        (λ (u : Val). ‵ (fat fullShare G′.mir l₇ 0 u)) (ap only (LL.tells G.the-type G′.the-laws r _ is)) refl $
         forget ! 6 refl $ forget ! 8 refl $ forget ! 10 refl $ forget ! 12 refl $ forget ! 14 refl $ forget ! 22 refl $
         again ! Nearer At t (next t n r (ls .1 .0) (ls .1 .1 .0) (subst (Is G.the-row r) (LL.tells G.the-type G′.the-laws r _ is) is) lm lc is-next said) (said .less)))))))))))))))))
-        (λ e. rewrite ! 14 (λ (c : Bool). ‵ (fat fullShare tyBool l₁₂ 0 (vbool c))) e refl $ leaves-loop ! (load ! (from ! (stop !)) (look ! 14 refl)) $ exec ! (𝓣 .C) (𝓣 .Λ) En body.t-7 (atRet En Post) $ forget ! 14 refl $ leaves t e)
+        (λ e. rewrite ! 14 (λ (c : Bool). ‵ (fat fullShare tyBool l₁₂ 0 (vbool c))) e refl $ leaves-loop !
+        (load ! (from ! (stop !)) (look ! 14 refl)) $ exec ! (𝓣 .C) (𝓣 .Λ) En body.t-7 (atRet En Post) $ forget ! 14 refl $ leaves t e)
 
     -- the loop and what follows it
     from-loop : (t : Turn) → Sq W (At t) (runs (𝓣 .C) (𝓣 .Λ) En body.t-6 (atRet En Post))
-    from-loop t = first ! $ blocks ! $ loops ! 𝓣 Nearer Nearer-wf At {E = En} {b = body.turn-1} {q = anyQ (afterBlock 𝓤 H (afterSeq 𝓤 H (Wp 𝓤 H (𝓣 .C) (𝓣 .Λ) En body.t-7 (atReturn 𝓤 H En Post)) (atReturn 𝓤 H En Post)))} turns t
+    from-loop t = first ! $ blocks ! $ loops ! 𝓣 Nearer Nearer-wf At {E = En} {b = body.turn-1}
+        {q = anyQ (afterBlock 𝓤 H (afterSeq 𝓤 H (Wp 𝓤 H (𝓣 .C) (𝓣 .Λ) En body.t-7 (atReturn 𝓤 H En Post)) (atReturn 𝓤 H En Post)))} turns t
 
-  walk : (𝓣 : Tables 𝓤 H) → Triple 𝓤 (𝓣 .C #keys·rising) (Rising 𝓤 H A at-mem run) → Triple 𝓤 (𝓣 .C #runs·begin) (Begin 𝓤 H A at-mem run) → Triple 𝓤 (𝓣 .C #keys·next-key) (NextKey 𝓤 H A at-mem run) → Triple 𝓤 (𝓣 .C #runs·proceed) (Proceed 𝓤 H A at-mem run)
+  walk : (𝓣 : Tables 𝓤 H) → Triple 𝓤 (𝓣 .C #keys·rising) (Rising 𝓤 H A at-mem run) → Triple 𝓤 (𝓣 .C #runs·begin) (Begin 𝓤 H A at-mem run) → Triple 𝓤
+      (𝓣 .C #keys·next-key) (NextKey 𝓤 H A at-mem run) → Triple 𝓤 (𝓣 .C #runs·proceed) (Proceed 𝓤 H A at-mem run)
       → Room u8 (length ys) → Room u8 (length cs) → Room K.the-row (length ks)
       → ent 𝓤 (onEntry 𝓤 H A f.signature (κm, (κc, (κk, tt))) (qm, (qc, (qk, tt))) a at) (WpFn 𝓤 H (𝓣 .C) (𝓣 .Λ) code.function (machM h ∷ sm ∷ sc ∷ sk ∷ vint w64 budget ∷ []) Post)
   walk 𝓣 known-rising known-begin known-next known-proceed gm gc gk =
-      qed W ((‵ (flft κm qm) ⊛ ‵ (flft κc qc) ⊛ ‵ (flft κk qk) ⊛ ‵ ftrue) ∷ ‵ (owns (T.the-row ∷ MutSlice (named 0) κm u8 ∷ MutSlice (named 1) κc u8 ∷ ShrSlice (named 2) κk K.the-row ∷ u64 ∷ []) a at) ∷ []) ∵ enter ! (𝓣 .C) (𝓣 .Λ) code.function (machM h ∷ sm ∷ sc ∷ sk ∷ vint w64 budget ∷ []) _ $
-      alloc1 ! (λ l₀. alloc1 ! (λ l₁. alloc1 ! (λ l₂. alloc1 ! (λ l₃. alloc1 ! (λ l₄. alloc1 ! (λ l₅. alloc1 ! (λ l₆. alloc1 ! (λ l₇. alloc1 ! (λ l₈. alloc1 ! (λ l₉. alloc1 ! (λ l₁₀. alloc1 ! (λ l₁₁. alloc1 ! (λ l₁₂. alloc1 ! (λ l₁₃. alloc1 ! (λ l₁₄. alloc1 ! (λ l₁₅. alloc1 ! (λ l₁₆. alloc0 ! $ params1 ! $
-      pass1 ! (init ! 30 refl (LL.lawful T.the-type T′.the-laws 𝓤 H A W .typed h _ h-is .0)) $ pass1 ! (init ! 28 refl (tt, (tt, (record { fits = gm .0 }, tt)))) $ pass1 ! (init ! 26 refl (tt, (tt, (record { fits = gc .0 }, tt)))) $ pass1 ! (init ! 24 refl (tt, (tt, (record { fits = gk .0 }, tt)))) $ pass1 ! (init ! 22 refl (tt, record { fits = budget-fits })) $ pass0 ! $
+      qed W ((‵ (flft κm qm) ⊛ ‵ (flft κc qc) ⊛ ‵ (flft κk qk) ⊛ ‵ ftrue) ∷ ‵
+      (owns (T.the-row ∷ MutSlice (named 0) κm u8 ∷ MutSlice (named 1) κc u8 ∷ ShrSlice (named 2) κk K.the-row ∷ u64 ∷ []) a at) ∷ []) ∵ enter !
+      (𝓣 .C) (𝓣 .Λ) code.function (machM h ∷ sm ∷ sc ∷ sk ∷ vint w64 budget ∷ []) _ $
+      alloc1 ! (λ l₀. alloc1 !
+      (λ l₁. alloc1 ! (λ l₂. alloc1 ! (λ l₃. alloc1 ! (λ l₄. alloc1 !
+      (λ l₅. alloc1 ! (λ l₆. alloc1 ! (λ l₇. alloc1 ! (λ l₈. alloc1 !
+      (λ l₉. alloc1 ! (λ l₁₀. alloc1 ! (λ l₁₁. alloc1 ! (λ l₁₂. alloc1 !
+      (λ l₁₃. alloc1 ! (λ l₁₄. alloc1 ! (λ l₁₅. alloc1 ! (λ l₁₆. alloc0 ! $ params1 ! $
+      pass1 ! (init ! 30 refl (LL.lawful T.the-type T′.the-laws 𝓤 H A W .typed h _ h-is .0)) $ pass1 !
+      (init ! 28 refl (tt, (tt, (record { fits = gm .0 }, tt)))) $ pass1 ! (init ! 26 refl (tt, (tt, (record { fits = gc .0 }, tt)))) $ pass1 !
+      (init ! 24 refl (tt, (tt, (record { fits = gk .0 }, tt)))) $ pass1 ! (init ! 22 refl (tt, record { fits = budget-fits })) $ pass0 ! $
       move ! (35 ∷ []) $ fsplit ! $ drop ! $ fsplit ! $ move ! (1 ∷ []) $ fsplit ! $ move ! (1 ∷ []) $ fsplit ! $ move ! (1 ∷ []) $ drop ! $
       move ! (37 ∷ []) $ split ! $ move ! (1 ∷ []) $ split ! $ move ! (1 ∷ []) $ split ! $ move ! (1 ∷ []) $ drop ! $ move ! (2 ∷ 1 ∷ 0 ∷ 5 ∷ 4 ∷ 3 ∷ []) $
       -- [the tokens of memory, console and keys; memory; console; keys; _16; …; .. ; _0; …], as before each statement
-      move ! (5 ∷ []) $ use1 W (Keys ⊛ Keys) (shr-slice-copy 𝓤 H A W (named 2) κk K.the-row .twice xk (sk ∷ [])) $ split ! $ move ! (4 ∷ 0 ∷ []) $ use2 W (raw (Rising 𝓤 H A at-mem run .pre to-rising)) asked-rising $
+      move ! (5 ∷ []) $ use1 W (Keys ⊛ Keys) (shr-slice-copy 𝓤 H A W (named 2) κk K.the-row .twice xk (sk ∷ [])) $ split ! $ move ! (4 ∷ 0 ∷ []) $
+      use2 W (raw (Rising 𝓤 H A at-mem run .pre to-rising)) asked-rising $
       calls-at ! (fmOf 𝓤 H (W .laws) 𝓣) (Rising 𝓤 H A at-mem run) known-rising to-rising (and-then ! (load ! (from ! (stop !)) (look ! 30 refl)) (no-more !)) (λ v.
-      use1 W (later (some (λ (s : Bool). ((‵ (flft κk qk) ⊛ ‵ ftrue) ⊛ ‵ (Boolean .own s (v ∷ []))) ⊛ raw (ensured 𝓤 H A rising.ended (rising.clauses 𝓤 H A at-mem run) (κk, tt) (xk, tt) tt s)))) (id⊢ 𝓤 _) $ await ! tt $ pick ! (λ s.
+      use1 W (later (some (λ (s : Bool). ((‵ (flft κk qk) ⊛ ‵ ftrue) ⊛ ‵ (Boolean .own s (v ∷ []))) ⊛ raw
+      (ensured 𝓤 H A rising.ended (rising.clauses 𝓤 H A at-mem run) (κk, tt) (xk, tt) tt s)))) (id⊢ 𝓤 _) $ await ! tt $ pick ! (λ s.
       split ! $ move ! (1 ∷ []) $ use1 W (raw (fact 𝓤 (s ≡ keysRise 0 ks))) (rising-of s) $ heard ! (s ≡ keysRise 0 ks) (λ sorted. split ! $ move ! (1 ∷ []) $
       peeks ! Boolean (Is Boolean) (shows 𝓤 H A Boolean) s (v ∷ []) (λ s-was.
-      land ! (from ! (stop !)) (init ! 27 refl (bool-lawful 𝓤 H A W .typed s _ s-was .0)) $ rewrite ! 27 (λ (u : Val). ‵ (fat fullShare tyBool l₆ 0 u)) (ap only s-was) refl $ drop ! $ split ! $ move ! (1 ∷ []) $ drop ! $ move ! (2 ∷ 3 ∷ 0 ∷ 4 ∷ 5 ∷ 1 ∷ []) $
+      land ! (from ! (stop !)) (init ! 27 refl (bool-lawful 𝓤 H A W .typed s _ s-was .0)) $ rewrite ! 27
+      (λ (u : Val). ‵ (fat fullShare tyBool l₆ 0 u)) (ap only s-was) refl $ drop ! $ split ! $ move ! (1 ∷ []) $ drop ! $ move !
+      (2 ∷ 3 ∷ 0 ∷ 4 ∷ 5 ∷ 1 ∷ []) $
       assigns ! (of-opd ! (load ! (from ! (fld ! refl (stop !))) (look-in ! 34 (sub ! 1 refl (whole !))))) (from ! (stop !)) (init ! 20 refl (tt, record { fits = gm .0 })) $
       assigns ! (of-opd ! (load ! (from ! (fld ! refl (stop !))) (look-in ! 32 (sub ! 1 refl (whole !))))) (from ! (stop !)) (init ! 18 refl (tt, record { fits = gc .0 })) $
       assigns ! (of-opd ! (load ! (from ! (fld ! refl (stop !))) (look-in ! 30 (sub ! 1 refl (whole !))))) (from ! (stop !)) (init ! 16 refl (tt, record { fits = gk .0 })) $
       use0 W (raw (Begin 𝓤 H A at-mem run .pre (to-begin s))) (asked-begin s (gm .0) (gc .0) (gk .0)) $
-      calls-at ! (fmOf 𝓤 H (W .laws) 𝓣) (Begin 𝓤 H A at-mem run) known-begin (to-begin s) (and-then ! (load ! (from ! (stop !)) (look ! 37 refl)) (and-then ! (load ! (from ! (stop !)) (look ! 21 refl)) (and-then ! (load ! (from ! (stop !)) (look ! 19 refl)) (and-then ! (load ! (from ! (stop !)) (look ! 27 refl)) (and-then ! (load ! (from ! (stop !)) (look ! 17 refl)) (and-then ! (load ! (from ! (stop !)) (look ! 29 refl)) (no-more !))))))) (λ u.
-      use1 W (later (some (λ (g₀ : UnderWay). (‵ ftrue ⊛ ‵ (G.the-row .own g₀ (u ∷ []))) ⊛ raw (ensured 𝓤 H A begin.ended (begin.clauses 𝓤 H A at-mem run) tt (begun s) tt g₀)))) (id⊢ 𝓤 _) $ await ! tt $ pick ! (λ g₀.
-      split ! $ move ! (1 ∷ []) $ use1 W (raw (fact 𝓤 (g₀ ≡ beginOf h (length ys) (length cs) s (length ks) budget))) (begin-of s g₀) $ heard ! (g₀ ≡ beginOf h (length ys) (length cs) s (length ks) budget) (λ began. split ! $ drop ! $
+      calls-at ! (fmOf 𝓤 H (W .laws) 𝓣) (Begin 𝓤 H A at-mem run) known-begin (to-begin s)
+      (and-then ! (load ! (from ! (stop !)) (look ! 37 refl)) (and-then ! (load ! (from ! (stop !)) (look ! 21 refl))
+      (and-then ! (load ! (from ! (stop !)) (look ! 19 refl)) (and-then ! (load ! (from ! (stop !)) (look ! 27 refl))
+      (and-then ! (load ! (from ! (stop !)) (look ! 17 refl)) (and-then ! (load ! (from ! (stop !)) (look ! 29 refl)) (no-more !))))))) (λ u.
+      use1 W (later (some (λ (g₀ : UnderWay). (‵ ftrue ⊛ ‵ (G.the-row .own g₀ (u ∷ []))) ⊛ raw
+      (ensured 𝓤 H A begin.ended (begin.clauses 𝓤 H A at-mem run) tt (begun s) tt g₀)))) (id⊢ 𝓤 _) $ await ! tt $ pick ! (λ g₀.
+      split ! $ move ! (1 ∷ []) $ use1 W (raw (fact 𝓤 (g₀ ≡ beginOf h (length ys) (length cs) s (length ks) budget))) (begin-of s g₀) $ heard !
+      (g₀ ≡ beginOf h (length ys) (length cs) s (length ks) budget) (λ began. split ! $ drop ! $
       peeks ! G.the-row (Is G.the-row) (shows 𝓤 H A G.the-row) g₀ (u ∷ []) (λ g-was.
-      land ! (from ! (stop !)) (init ! 25 refl (LL.lawful G.the-type G′.the-laws 𝓤 H A W .typed g₀ _ g-was .0)) $ rewrite ! 25 (λ (w : Val). ‵ (fat fullShare G′.mir l₇ 0 w)) (ap only (LL.tells G.the-type G′.the-laws g₀ _ g-was)) refl $ drop ! $
+      land ! (from ! (stop !)) (init ! 25 refl (LL.lawful G.the-type G′.the-laws 𝓤 H A W .typed g₀ _ g-was .0)) $ rewrite ! 25
+      (λ (w : Val). ‵ (fat fullShare G′.mir l₇ 0 w)) (ap only (LL.tells G.the-type G′.the-laws g₀ _ g-was)) refl $ drop ! $
       forget ! 16 refl $ forget ! 18 refl $ forget ! 20 refl $ forget ! 26 refl $
       from-loop 𝓣 known-next known-proceed gm gc gk l₀ l₁ l₂ l₃ l₄ l₅ l₆ l₇ l₈ l₉ l₁₀ l₁₁ l₁₂ l₁₃ l₁₄ l₁₅ l₁₆
-      (record { g = g₀; zs = ys; ds = cs; g-is = subst (Is G.the-row g₀) (LL.tells G.the-type G′.the-laws g₀ _ g-was) g-was; lz = refl; ld = refl; under = under-first ks budget h ys cs sorted refl began }))))))))))))))))))))))))))
+      (record {
+        g = g₀;
+        zs = ys;
+        ds = cs;
+        g-is = subst (Is G.the-row g₀) (LL.tells G.the-type G′.the-laws g₀ _ g-was) g-was;
+        lz = refl;
+        ld = refl;
+        under = under-first ks budget h ys cs sorted refl began;
+      }))))))))))))))))))))))))))
 
-module _ {M : Type 1} (𝓤 : URA M) (H : Heap 𝓤) (A : Atoms 𝓤) (W : Given 𝓤 H A) (at-mem : Memory → SProp 𝓤) (run : Routine → Fun 𝓤) (𝓣 : Tables 𝓤 H) (known-rising : Triple 𝓤 (𝓣 .C #keys·rising) (Rising 𝓤 H A at-mem run)) (known-begin : Triple 𝓤 (𝓣 .C #runs·begin) (Begin 𝓤 H A at-mem run)) (known-next : Triple 𝓤 (𝓣 .C #keys·next-key) (NextKey 𝓤 H A at-mem run)) (known-proceed : Triple 𝓤 (𝓣 .C #runs·proceed) (Proceed 𝓤 H A at-mem run)) where
+module _ {M : Type 1} (𝓤 : URA M) (H : Heap 𝓤) (A : Atoms 𝓤) (W : Given 𝓤 H A) (at-mem : Memory → SProp 𝓤) (run : Routine → Fun 𝓤) (𝓣 : Tables 𝓤 H)
+    (known-rising : Triple 𝓤 (𝓣 .C #keys·rising) (Rising 𝓤 H A at-mem run)) (known-begin : Triple 𝓤 (𝓣 .C #runs·begin) (Begin 𝓤 H A at-mem run))
+    (known-next : Triple 𝓤 (𝓣 .C #keys·next-key) (NextKey 𝓤 H A at-mem run))
+    (known-proceed : Triple 𝓤 (𝓣 .C #runs·proceed) (Proceed 𝓤 H A at-mem run)) where
   walks : Walks 𝓤 H A f.ended stayed (WpFn 𝓤 H (𝓣 .C) (𝓣 .Λ) code.function) (f.clauses 𝓤 H A at-mem run)
-  walks = walked 𝓤 H A f.ended stayed (f.clauses 𝓤 H A at-mem run) (WpFn 𝓤 H (𝓣 .C) (𝓣 .Λ) code.function) (λ κs. (LL.vals T.the-type T′.the-laws, (slice-vals, (slice-vals, (slice-vals, (uint-vals w64, tt))))))
-      (λ κs. (LL.tells T.the-type T′.the-laws, (mut-slice-tells (named 0) (κs .0) u8, (mut-slice-tells (named 1) (κs .1 .0) u8, (shr-slice-tells (named 2) (κs .1 .1 .0) K.the-row, (uint-tells w64, tt))))))
-      (λ κs qs bounds a g are. via 𝓤 _ (fst∗ 𝓤 _ (emp 𝓤)) (walk 𝓤 H A W at-mem run (κs .0) (κs .1 .0) (κs .1 .1 .0) (qs .0) (qs .1 .0) (qs .1 .1 .0) (a .0) (a .1 .0 .ptr .0) (a .1 .0 .ptr .1) (a .1 .0 .name) (a .1 .0 .now) (a .1 .1 .0 .ptr .0) (a .1 .1 .0 .ptr .1) (a .1 .1 .0 .name) (a .1 .1 .0 .now)
-      (a .1 .1 .1 .0 .ptr .0) (a .1 .1 .1 .0 .ptr .1) (a .1 .1 .1 .0 .name) (a .1 .1 .1 .0 .now) (a .1 .1 .1 .1 .0) (are .0) (are .1 .1 .1 .1 .0 .1) 𝓣 known-rising known-begin known-next known-proceed (are .1 .0 .0 .1) (are .1 .1 .0 .0 .1) (are .1 .1 .1 .0 .0 .1)))
+  walks = walked 𝓤 H A f.ended stayed (f.clauses 𝓤 H A at-mem run) (WpFn 𝓤 H (𝓣 .C) (𝓣 .Λ) code.function)
+      (λ κs. (LL.vals T.the-type T′.the-laws, (slice-vals, (slice-vals, (slice-vals, (uint-vals w64, tt))))))
+      (λ κs. (
+        LL.tells T.the-type T′.the-laws,
+        (
+          mut-slice-tells (named 0) (κs .0) u8,
+          (mut-slice-tells (named 1) (κs .1 .0) u8, (shr-slice-tells (named 2) (κs .1 .1 .0) K.the-row, (uint-tells w64, tt))),
+        ),
+      ))
+      (λ κs qs bounds a g are. via 𝓤 _ (fst∗ 𝓤 _ (emp 𝓤)) (walk 𝓤 H A W at-mem run (κs .0) (κs .1 .0) (κs .1 .1 .0) (qs .0) (qs .1 .0) (qs .1 .1 .0)
+      (a .0) (a .1 .0 .ptr .0) (a .1 .0 .ptr .1) (a .1 .0 .name) (a .1 .0 .now) (a .1 .1 .0 .ptr .0) (a .1 .1 .0 .ptr .1) (a .1 .1 .0 .name)
+      (a .1 .1 .0 .now)
+      (a .1 .1 .1 .0 .ptr .0) (a .1 .1 .1 .0 .ptr .1) (a .1 .1 .1 .0 .name) (a .1 .1 .1 .0 .now) (a .1 .1 .1 .1 .0) (are .0) (are .1 .1 .1 .1 .0 .1)
+      𝓣 known-rising known-begin known-next known-proceed (are .1 .0 .0 .1) (are .1 .1 .0 .0 .1) (are .1 .1 .1 .0 .0 .1)))
 
   meets : Meets 𝓤 H A f.signature (WpFn 𝓤 H (𝓣 .C) (𝓣 .Λ) code.function) (f.spec 𝓤 H A at-mem run)
-  meets = walk-meets 𝓤 H A f.ended stayed W (goes-none 𝓤 H A W 3 (λ _. T.the-row) yes (λ κs x f. refl), (goes-slice 𝓤 H A W 3 0 tt (plain (λ _. u8)), (goes-slice 𝓤 H A W 3 1 tt (plain (λ _. u8)), (goes-none-slice 𝓤 H A W 3 (2 ∷ []) tt (plain (λ _. K.the-row)) yes, (goes-none 𝓤 H A W 3 (λ _. u64) yes (λ κs x f. refl), tt)))))
+  meets = walk-meets 𝓤 H A f.ended stayed W (
+    goes-none 𝓤 H A W 3 (λ _. T.the-row) yes (λ κs x f. refl),
+    (
+      goes-slice 𝓤 H A W 3 0 tt (plain (λ _. u8)),
+      (
+        goes-slice 𝓤 H A W 3 1 tt (plain (λ _. u8)),
+        (goes-none-slice 𝓤 H A W 3 (2 ∷ []) tt (plain (λ _. K.the-row)) yes, (goes-none 𝓤 H A W 3 (λ _. u64) yes (λ κs x f. refl), tt)),
+      ),
+    ),
+  )
       (f.clauses 𝓤 H A at-mem run) (WpFn 𝓤 H (𝓣 .C) (𝓣 .Λ) code.function) (WpFn-mono 𝓤 H (W .laws) 𝓣 code.function) walks
 
 pub run-spec : {M : Type 1} → stated.statement M

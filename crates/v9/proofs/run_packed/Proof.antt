@@ -16,35 +16,33 @@ Inv-loop mem₀ console₀ keys budget rising g₀ mem console g =
 abbrev μ-loop : tie.MeasureT-loop
 μ-loop mem₀ console₀ keys budget rising g₀ mem console g = g .left
 
-rising-packed-requires : tie.Need-rising-packed-requires Inv-loop μ-loop
-rising-packed-requires c κs = search needs
-
-begin-requires : tie.Need-begin-requires Inv-loop μ-loop
-begin-requires c κs = search needs
-
 loop-holds : tie.Need-loop-holds Inv-loop μ-loop
 loop-holds c = (refl, (refl, under-start _ _ _ _ _ (c .before .rising-packed .ensures) (sym (packed-length _)) (c .begin .ensures)))
 
-next-packed-requires : tie.Need-next-packed-requires Inv-loop μ-loop
-next-packed-requires c κs = search needs
-
 proceed-requires : tie.Need-proceed-requires Inv-loop μ-loop
-proceed-requires c κs = (c .before .before .before .before .before .loop .inv .1 .1 .able (c .before .before .before .if1 .taken), key-fits (unpacked (c .before .before .before .before .before .before .before .before .before .before .before .args .keys .now)) _ (c .before .before .next-packed .ensures) (omega (arith, packed-length (c .before .before .before .before .before .before .before .before .before .before .before .args .keys .now), c .before .before .before .before .before .before .before .before .before .before .before .good .1 .1 .1 .0)))
+proceed-requires c κs =
+    let if1 = c .before .before .before .if1 in
+    let loop = c .before .before .before .before .before .loop in
+    let given = c .before .before .before .before .before .before .before .before .before .before .before .args in
+    let good = c .before .before .before .before .before .before .before .before .before .before .before .good in
+    (loop .inv .1 .1 .able (if1 .taken), key-fits (unpacked (given .keys .now)) _ (c .before .before .next-packed .ensures) (omega (arith, packed-length (given .keys .now), good .1 .1 .1 .0)))
 
 loop-less : tie.Need-loop-less Inv-loop μ-loop
 loop-less c = c .before .before .before .before .proceed .ensures .less
 
 loop-again : tie.Need-loop-again Inv-loop μ-loop
-loop-again c = (c .before .before .before .before .proceed .kept .1 .0 ∙ c .before .before .before .before .before .before .before .before .before .before .loop .inv .0, (c .before .before .before .before .proceed .kept .1 .1 .0 ∙ c .before .before .before .before .before .before .before .before .before .before .loop .inv .1 .0, under-next _ _ _ _ _ (c .before .before .before .before .before .before .before .before .before .before .loop .inv .1 .1) (c .before .before .before .before .before .before .before .next-packed .ensures) (c .before .before .before .before .proceed .ensures)))
-
-same-length : tie.Need-same-length Inv-loop μ-loop
-same-length c = search needs
-
-same-length-2 : tie.Need-same-length-2 Inv-loop μ-loop
-same-length-2 c = search needs
+loop-again c =
+    let proceed = c .before .before .before .before .proceed in
+    let next-packed = c .before .before .before .before .before .before .before .next-packed in
+    let loop = c .before .before .before .before .before .before .before .before .before .before .loop in
+    (proceed .kept .1 .0 ∙ loop .inv .0, (proceed .kept .1 .1 .0 ∙ loop .inv .1 .0, under-next _ _ _ _ _ (loop .inv .1 .1) (next-packed .ensures) (proceed .ensures)))
 
 returns : tie.Need-returns Inv-loop μ-loop
-returns c = under-end _ _ _ _ _ (c .before .before .before .before .before .rising-packed .ensures) (sym (packed-length _)) (c .before .before .before .before .begin .ensures) (c .before .before .before .loop .inv .1 .1) (c .before .if1 .left)
+returns c =
+    let loop = c .before .before .before .loop in
+    let begin = c .before .before .before .before .begin in
+    let rising-packed = c .before .before .before .before .before .rising-packed in
+    under-end _ _ _ _ _ (rising-packed .ensures) (sym (packed-length _)) (begin .ensures) (loop .inv .1 .1) (c .before .if1 .left)
 
 pub run-packed-spec : {M : Type 1} → statement M
 run-packed-spec =
@@ -52,13 +50,13 @@ run-packed-spec =
     (tie.spec
     Inv-loop
     μ-loop
-    rising-packed-requires
-    begin-requires
+    (λ c κs. search needs)
+    (λ c κs. search needs)
     loop-holds
-    next-packed-requires
+    (λ c κs. search needs)
     proceed-requires
     loop-less
     loop-again
-    same-length
-    same-length-2
+    (λ c. search needs)
+    (λ c. search needs)
     returns)

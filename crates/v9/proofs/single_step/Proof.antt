@@ -18,7 +18,8 @@ use prog.Wp.{Heap, Calls, Loops, WpFn, Tables}
 use ghost.Atoms.{Atoms, sem}
 use contract.Monad.{Fun, fact}
 use contract.Running.{givenOf, tables, tablesOf}
-use types.Kit.{Given, Item, ‵, raw, some, later, _⊛_, ⋆, _$_, _∵_, !, qed, by, move, keep, use0, use1, use2, drop, split, join, pick, rewrite, fsplit, fsplit3, fjoin, fjoin3, feqL, feqI, suffices, frame, await, done}
+use types.Kit.{Given, Item, ‵, raw, some, later, _⊛_, ⋆, _$_, _∵_, !, qed, by, move, keep, use0, use1, use2, drop, split, join, pick, rewrite}
+use types.Kit.{fsplit, fsplit3, fjoin, fjoin3, feqL, feqI, suffices, frame, await, done}
 use types.Run.{look, init, store, forget, stop, hop, fld, from, load, lit, addr, and-then, no-more, of-opd, assigns, land, returns, enter, alloc1, alloc0, params1, pass1, pass0, free1, free0}
 use types.Part.{agg, whole, sub, look-in}
 use types.SemTy.{Body}
@@ -70,7 +71,13 @@ use Rattle.v9.proofs.single_step.Statement as stated
 use Rattle.v9.proofs.single_step.Code as code
 
 abbrev stayed : Stays (f.ended .signature .params) (f.ended .kept)
-stayed = (stay-ref (0 ∷ []) tt (plain (λ _. T.the-row)), (gave-slice (1 ∷ []) tt (plain (λ _. u8)), (gave-slice (2 ∷ []) tt (plain (λ _. u8)), (stay-none-slice (3 ∷ []) tt (plain (λ _. K.the-row)) yes, tt))))
+stayed = (
+  stay-ref (0 ∷ []) tt (plain (λ _. T.the-row)),
+  (
+    gave-slice (1 ∷ []) tt (plain (λ _. u8)),
+    (gave-slice (2 ∷ []) tt (plain (λ _. u8)), (stay-none-slice (3 ∷ []) tt (plain (λ _. K.the-row)) yes, tt)),
+  ),
+)
 
 abbrev mach : Machine → Val
 mach h = LL.tuple-val T.the-type T′.the-laws (T.the-type .to h)
@@ -85,7 +92,8 @@ Run 𝓤 H A at-mem run = tripleOf 𝓤 H A callee.signature (callee.spec 𝓤 H
 abbrev Number : {M : Type 1} (𝓤 : URA M) (H : Heap 𝓤) (A : Atoms 𝓤) (at-mem : Memory → SProp 𝓤) (run : Routine → Fun 𝓤) → Contract 𝓤
 Number 𝓤 H A at-mem run = tripleOf 𝓤 H A number.signature (number.spec 𝓤 H A at-mem run)
 
-module _ {M : Type 1} (𝓤 : URA M) (H : Heap 𝓤) (A : Atoms 𝓤) (W : Given 𝓤 H A) (at-mem : Memory → SProp 𝓤) (run : Routine → Fun 𝓤) (κ κm κc κk : Lft) (q qm qc qk : Share) (b o : ℕ) (γ : GName) (h : Machine) (xm xc : RefT (List ℕ)) (xk : RefT (List Key)) where
+module _ {M : Type 1} (𝓤 : URA M) (H : Heap 𝓤) (A : Atoms 𝓤) (W : Given 𝓤 H A) (at-mem : Memory → SProp 𝓤) (run : Routine → Fun 𝓤) (κ κm κc κk : Lft)
+    (q qm qc qk : Share) (b o : ℕ) (γ : GName) (h : Machine) (xm xc : RefT (List ℕ)) (xk : RefT (List Key)) where
   abbrev ks : List Key
   ks = xk .now
 
@@ -125,7 +133,8 @@ module _ {M : Type 1} (𝓤 : URA M) (H : Heap 𝓤) (A : Atoms 𝓤) (W : Given
   to-run = (((κm, (κc, (κk, tt))), (qm, (qc, (qk, tt))), tt, passed, (mach h ∷ [], (sm ∷ [], (sc ∷ [], (sk ∷ [], (vint w64 1 ∷ [], tt)))))), tt)
 
   abbrev Owned : Fml
-  Owned = owns (T.the-row ∷ MutSlice (named 0) κm u8 ∷ MutSlice (named 1) κc u8 ∷ ShrSlice (named 2) κk K.the-row ∷ u64 ∷ []) passed (mach h ∷ [], (sm ∷ [], (sc ∷ [], (sk ∷ [], (vint w64 1 ∷ [], tt)))))
+  Owned = owns (T.the-row ∷ MutSlice (named 0) κm u8 ∷ MutSlice (named 1) κc u8 ∷ ShrSlice (named 2) κk K.the-row ∷ u64 ∷ []) passed
+      (mach h ∷ [], (sm ∷ [], (sc ∷ [], (sk ∷ [], (vint w64 1 ∷ [], tt)))))
 
   asked : ent 𝓤 (⋆ 𝓤 H A (Tokens ∷ ‵ Owned ∷ [])) (Run 𝓤 H A at-mem run .pre to-run)
   asked = qed W (Tokens ∷ ‵ Owned ∷ []) ∵ join ! $ frame ! $ done !
@@ -148,10 +157,15 @@ module _ {M : Type 1} (𝓤 : URA M) (H : Heap 𝓤) (A : Atoms 𝓤) (W : Given
   number-of r s = exE 𝓤 _ (λ ws. snd∗ 𝓤 (sem 𝓤 H A (lasts number.ended tt (r, tt) ws)) (fact 𝓤 (Told r s)))
 
   exits : (s : Numbered) (zm zc : List ℕ) → StepsAs ks h (xm .now) (xc .now) (s .number) (s .machine) zm zc → length zm ≡ length (xm .now) → length zc ≡ length (xc .now) → s .number < 2 ^ 32
-      → ent 𝓤 (⋆ 𝓤 H A (‵ (fobs γ (T.the-row .coded .code (s .machine))) ∷ ‵ (fbor κ (Body (mem T.the-row) b o γ)) ∷ ‵ (flft κ q) ∷ Tokens ∷ ‵ (finally u8 (xm .name) zm) ∷ ‵ (finally u8 (xc .name) zc) ∷ ‵ (ShrSlice (named 3) κk K.the-row .own xk (sk ∷ [])) ∷ [])) (Post (vint w32 (s .number)))
+      → ent 𝓤 (⋆ 𝓤 H A (‵ (fobs γ (T.the-row .coded .code (s .machine))) ∷ ‵ (fbor κ (Body (mem T.the-row) b o γ)) ∷ ‵ (flft κ q) ∷ Tokens ∷ ‵
+      (finally u8 (xm .name) zm) ∷ ‵ (finally u8 (xc .name) zc) ∷ ‵ (ShrSlice (named 3) κk K.the-row .own xk (sk ∷ [])) ∷ []))
+      (Post (vint w32 (s .number)))
   exits s zm zc e lm lc fits =
-      qed W (‵ (fobs γ (T.the-row .coded .code (s .machine))) ∷ ‵ (fbor κ (Body (mem T.the-row) b o γ)) ∷ ‵ (flft κ q) ∷ Tokens ∷ ‵ (finally u8 (xm .name) zm) ∷ ‵ (finally u8 (xc .name) zc) ∷ ‵ (ShrSlice (named 3) κk K.the-row .own xk (sk ∷ [])) ∷ []) ∵
-      suffices ! _ (ends-at 𝓤 H A f.ended stayed (f.clauses 𝓤 H A at-mem run) W (((κ, (κm, (κc, (κk, tt)))), (q, (qm, (qc, (qk, tt)))), tt, a, at), tt) (vint w32 (s .number)) (s .number) (s .machine, (zm, (zc, (tt, tt)))) (tt, (lm, (lc, (tt, tt))))) $
+      qed W (‵ (fobs γ (T.the-row .coded .code (s .machine))) ∷ ‵ (fbor κ (Body (mem T.the-row) b o γ)) ∷ ‵ (flft κ q) ∷ Tokens ∷ ‵
+      (finally u8 (xm .name) zm) ∷ ‵ (finally u8 (xc .name) zc) ∷ ‵ (ShrSlice (named 3) κk K.the-row .own xk (sk ∷ [])) ∷ []) ∵
+      suffices ! _ (ends-at 𝓤 H A f.ended stayed (f.clauses 𝓤 H A at-mem run) W
+      (((κ, (κm, (κc, (κk, tt)))), (q, (qm, (qc, (qk, tt)))), tt, a, at), tt) (vint w32 (s .number)) (s .number) (s .machine, (zm, (zc, (tt, tt))))
+      (tt, (lm, (lc, (tt, tt))))) $
       says ! e $
       move ! (2 ∷ 3 ∷ []) $ join ! $ frame ! $
       -- [obs; the borrow; memory's last list; the console's; the keys]
@@ -162,9 +176,13 @@ module _ {M : Type 1} (𝓤 : URA M) (H : Heap 𝓤) (A : Atoms 𝓤) (W : Given
     walk : Room u8 (length (xm .now)) → Room u8 (length (xc .now)) → Room K.the-row (length ks)
         → ent 𝓤 (onEntry 𝓤 H A f.signature (κ, (κm, (κc, (κk, tt)))) (q, (qm, (qc, (qk, tt)))) a at) (WpFn 𝓤 H C Λ code.function (vptr b o ∷ sm ∷ sc ∷ sk ∷ []) Post)
     walk gm gc gk =
-        qed W ((‵ (flft κ q) ⊛ Tokens) ∷ ‵ (owns (MutRef (named 0) κ T.the-row ∷ MutSlice (named 1) κm u8 ∷ MutSlice (named 2) κc u8 ∷ ShrSlice (named 3) κk K.the-row ∷ []) a at) ∷ []) ∵ enter ! C Λ code.function (vptr b o ∷ sm ∷ sc ∷ sk ∷ []) _ $
-        alloc1 ! (λ l₀. alloc1 ! (λ l₁. alloc1 ! (λ l₂. alloc1 ! (λ l₃. alloc1 ! (λ l₄. alloc1 ! (λ l₅. alloc1 ! (λ l₆. alloc1 ! (λ l₇. alloc1 ! (λ l₈. alloc1 ! (λ l₉. alloc1 ! (λ l₁₀. alloc1 ! (λ l₁₁. alloc0 ! $ params1 ! $
-        pass1 ! (init ! 20 refl (tt, tt)) $ pass1 ! (init ! 18 refl (tt, (tt, (record { fits = gm .0 }, tt)))) $ pass1 ! (init ! 16 refl (tt, (tt, (record { fits = gc .0 }, tt)))) $ pass1 ! (init ! 14 refl (tt, (tt, (record { fits = gk .0 }, tt)))) $ pass0 ! $
+        qed W ((‵ (flft κ q) ⊛ Tokens) ∷ ‵ (owns (MutRef (named 0) κ T.the-row ∷ MutSlice (named 1) κm u8 ∷ MutSlice (named 2) κc u8 ∷ ShrSlice
+        (named 3) κk K.the-row ∷ []) a at) ∷ []) ∵ enter ! C Λ code.function (vptr b o ∷ sm ∷ sc ∷ sk ∷ []) _ $
+        alloc1 ! (λ l₀. alloc1 !
+        (λ l₁. alloc1 ! (λ l₂. alloc1 ! (λ l₃. alloc1 ! (λ l₄. alloc1 !
+        (λ l₅. alloc1 ! (λ l₆. alloc1 ! (λ l₇. alloc1 ! (λ l₈. alloc1 ! (λ l₉. alloc1 ! (λ l₁₀. alloc1 ! (λ l₁₁. alloc0 ! $ params1 ! $
+        pass1 ! (init ! 20 refl (tt, tt)) $ pass1 ! (init ! 18 refl (tt, (tt, (record { fits = gm .0 }, tt)))) $ pass1 !
+        (init ! 16 refl (tt, (tt, (record { fits = gc .0 }, tt)))) $ pass1 ! (init ! 14 refl (tt, (tt, (record { fits = gk .0 }, tt)))) $ pass0 ! $
         -- the record's borrow is opened
         move ! (25 ∷ []) $ fsplit ! $ fsplit3 ! $ drop ! $ move ! (27 ∷ []) $ split ! $ move ! (2 ∷ 3 ∷ 0 ∷ []) $
         opens ! tt T.the-row {h = h} b o (λ vs. spelt ! T.the-row (Is T.the-row) (shows 𝓤 H A T.the-row) (LL.vals T.the-type T′.the-laws) (LL.tells T.the-type T′.the-laws) fullShare h vs b o $
@@ -173,19 +191,28 @@ module _ {M : Type 1} (𝓤 : URA M) (H : Heap 𝓤) (A : Atoms 𝓤) (W : Given
         -- [the record's cell; what it owns; the open borrow; obs; auth; the tokens; what the slices own; _11; …; .. ; _0; …]
         assigns ! (of-opd ! (load ! (from ! (hop ! (look ! 27 refl) (stop !))) (look ! 0 refl))) (from ! (stop !)) (init ! 15 refl (LL.lawful T.the-type T′.the-laws 𝓤 H A W .typed h _ g .0)) $
         assigns ! (addr ! (from ! (fld ! refl (hop ! (look-in ! 25 (sub ! 0 refl (whole !))) (stop !))))) (from ! (stop !)) (init ! 13 refl (tt, tt)) $
-        assigns ! (agg ! (and-then ! (load ! (from ! (stop !)) (look ! 13 refl)) (and-then ! (load ! (from ! (fld ! refl (stop !))) (look-in ! 25 (sub ! 1 refl (whole !)))) (no-more !)))) (from ! (stop !)) (init ! 11 refl (tt, (tt, (record { fits = gm .0 }, tt)))) $
+        assigns ! (agg ! (and-then ! (load ! (from ! (stop !)) (look ! 13 refl))
+        (and-then ! (load ! (from ! (fld ! refl (stop !))) (look-in ! 25 (sub ! 1 refl (whole !)))) (no-more !)))) (from ! (stop !))
+        (init ! 11 refl (tt, (tt, (record { fits = gm .0 }, tt)))) $
         assigns ! (addr ! (from ! (fld ! refl (hop ! (look-in ! 23 (sub ! 0 refl (whole !))) (stop !))))) (from ! (stop !)) (init ! 9 refl (tt, tt)) $
-        assigns ! (agg ! (and-then ! (load ! (from ! (stop !)) (look ! 9 refl)) (and-then ! (load ! (from ! (fld ! refl (stop !))) (look-in ! 23 (sub ! 1 refl (whole !)))) (no-more !)))) (from ! (stop !)) (init ! 7 refl (tt, (tt, (record { fits = gc .0 }, tt)))) $
+        assigns ! (agg ! (and-then ! (load ! (from ! (stop !)) (look ! 9 refl))
+        (and-then ! (load ! (from ! (fld ! refl (stop !))) (look-in ! 23 (sub ! 1 refl (whole !)))) (no-more !)))) (from ! (stop !))
+        (init ! 7 refl (tt, (tt, (record { fits = gc .0 }, tt)))) $
         -- what `run` is passed is put together; of the keys a copy is kept
         move ! (6 ∷ []) $ fsplit ! $ move ! (1 ∷ []) $ fsplit ! $ move ! (1 ∷ []) $ fsplit ! $
-        use1 W (‵ (ShrSlice (named 3) κk K.the-row .own xk (sk ∷ [])) ⊛ ‵ (ShrSlice (named 3) κk K.the-row .own xk (sk ∷ []))) (shr-slice-copy 𝓤 H A W (named 3) κk K.the-row .twice xk (sk ∷ [])) $ split ! $
+        use1 W (‵ (ShrSlice (named 3) κk K.the-row .own xk (sk ∷ [])) ⊛ ‵ (ShrSlice (named 3) κk K.the-row .own xk (sk ∷ [])))
+        (shr-slice-copy 𝓤 H A W (named 3) κk K.the-row .twice xk (sk ∷ [])) $ split ! $
         nothing ! $ owned ! u64 (Is u64) (uint-makes 𝓤 H A W w64) 1 _ (refl, lit< tt) $ fjoin ! $ move ! (1 ∷ 0 ∷ []) $ fjoin ! $ move ! (3 ∷ 0 ∷ []) $ fjoin ! $ move ! (3 ∷ 0 ∷ []) $ fjoin ! $
         owned ! T.the-row (Is T.the-row) (LL.makes T.the-type T′.the-plain 𝓤 H A) h _ g $ fjoin ! $ move ! (8 ∷ 0 ∷ []) $
         use2 W (raw (Run 𝓤 H A at-mem run .pre to-run)) asked $
         -- [the call's; the keys; true; the record's cell; what it owns; the open borrow; obs; auth; _11; …; .. ; _0; …]
-        calls-at ! fm (Run 𝓤 H A at-mem run) known to-run (and-then ! (load ! (from ! (stop !)) (look ! 16 refl)) (and-then ! (load ! (from ! (stop !)) (look ! 12 refl)) (and-then ! (load ! (from ! (stop !)) (look ! 8 refl)) (and-then ! (load ! (from ! (stop !)) (look ! 22 refl)) (and-then ! (lit ! tt) (no-more !)))))) (λ w.
-        use1 W (later (some (λ (r : RunResult). (Tokens ⊛ ‵ (R.the-row .own r (w ∷ []))) ⊛ raw (ensured 𝓤 H A callee.ended (callee.clauses 𝓤 H A at-mem run) (κm, (κc, (κk, tt))) passed tt r)))) (id⊢ 𝓤 _) $ await ! tt $ pick ! (λ r.
-        split ! $ move ! (1 ∷ []) $ use1 W (some (λ (zs : Unit {0} × (List ℕ × (List ℕ × (Unit {0} × (Unit {0} × Unit {0}))))). ‵ (lasts callee.ended (κm, (κc, (κk, tt))) passed zs) ⊛ raw (fact 𝓤 (Said r (zs .1 .0) (zs .1 .1 .0))))) (id⊢ 𝓤 _) $ pick ! (λ zs.
+        calls-at ! fm (Run 𝓤 H A at-mem run) known to-run (and-then ! (load ! (from ! (stop !)) (look ! 16 refl))
+        (and-then ! (load ! (from ! (stop !)) (look ! 12 refl)) (and-then ! (load ! (from ! (stop !)) (look ! 8 refl))
+        (and-then ! (load ! (from ! (stop !)) (look ! 22 refl)) (and-then ! (lit ! tt) (no-more !)))))) (λ w.
+        use1 W (later (some (λ (r : RunResult). (Tokens ⊛ ‵ (R.the-row .own r (w ∷ []))) ⊛ raw
+        (ensured 𝓤 H A callee.ended (callee.clauses 𝓤 H A at-mem run) (κm, (κc, (κk, tt))) passed tt r)))) (id⊢ 𝓤 _) $ await ! tt $ pick ! (λ r.
+        split ! $ move ! (1 ∷ []) $ use1 W (some (λ (zs : Unit {0} × (List ℕ × (List ℕ × (Unit {0} × (Unit {0} × Unit {0}))))). ‵
+        (lasts callee.ended (κm, (κc, (κk, tt))) passed zs) ⊛ raw (fact 𝓤 (Said r (zs .1 .0) (zs .1 .1 .0))))) (id⊢ 𝓤 _) $ pick ! (λ zs.
         split ! $ move ! (1 ∷ []) $ heard ! (Said r (zs .1 .0) (zs .1 .1 .0)) (λ e.
         fsplit ! $ drop ! $ fsplit ! $ fsplit ! $ move ! (1 ∷ []) $ feqL ! (λ lm. move ! (1 ∷ []) $ fsplit ! $ fsplit ! $ move ! (1 ∷ []) $ feqL ! (λ lc.
         -- [the console's last list; …; memory's; the tokens and the result; the keys; true; the record's cell; what it owns; the open borrow; obs; auth; _11; …; .. ; _0; …]
@@ -195,31 +222,56 @@ module _ {M : Type 1} (𝓤 : URA M) (H : Heap 𝓤) (A : Atoms 𝓤) (W : Given
         -- the answer's number
         use0 W (raw (Number 𝓤 H A at-mem run .pre (to-number r))) (asked-number r (subst (Is R.the-row r) (LL.tells R.the-type R′.the-laws r _ is) is)) $
         calls-at ! fm (Number 𝓤 H A at-mem run) known-number (to-number r) (and-then ! (load ! (from ! (stop !)) (look ! 25 refl)) (no-more !)) (λ v.
-        use1 W (later (some (λ (s : Numbered). (‵ ftrue ⊛ ‵ (S.the-row .own s (v ∷ []))) ⊛ raw (ensured 𝓤 H A number.ended (number.clauses 𝓤 H A at-mem run) tt (r, tt) tt s)))) (id⊢ 𝓤 _) $ await ! tt $ pick ! (λ s.
+        use1 W (later (some (λ (s : Numbered). (‵ ftrue ⊛ ‵ (S.the-row .own s (v ∷ []))) ⊛ raw
+        (ensured 𝓤 H A number.ended (number.clauses 𝓤 H A at-mem run) tt (r, tt) tt s)))) (id⊢ 𝓤 _) $ await ! tt $ pick ! (λ s.
         split ! $ move ! (1 ∷ []) $ use1 W (raw (fact 𝓤 (Told r s))) (number-of r s) $ heard ! (Told r s) (λ told. split ! $ drop ! $
         peeks ! S.the-row (Is S.the-row) (shows 𝓤 H A S.the-row) s (v ∷ []) (λ s-was.
         land ! (from ! (stop !)) (init ! 23 refl (LL.lawful S.the-type S′.the-laws 𝓤 H A W .typed s _ s-was .0)) $
         rewrite ! 23 (λ (u : Val). ‵ (fat fullShare S′.mir l₆ 0 u)) (ap only (LL.tells S.the-type S′.the-laws s _ s-was)) refl $ drop ! $
-        assigns ! (of-opd ! (load ! (from ! (fld ! refl (stop !))) (look-in ! 22 (sub ! 0 refl (whole !))))) (from ! (hop ! (look ! 32 refl) (stop !))) (store ! 7 refl (LL.lawful T.the-type T′.the-laws 𝓤 H A W .typed (s .machine) _ (LL.owed S.the-type S′.the-laws s _ s-was .0) .0)) $
-        assigns ! (of-opd ! (load ! (from ! (fld ! refl (stop !))) (look-in ! 22 (sub ! 1 refl (whole !))))) (from ! (stop !)) (init ! 34 refl (tt, record { fits = LL.owed S.the-type S′.the-laws s _ s-was .1 .0 .1 })) $
+        assigns ! (of-opd ! (load ! (from ! (fld ! refl (stop !))) (look-in ! 22 (sub ! 0 refl (whole !)))))
+        (from ! (hop ! (look ! 32 refl) (stop !))) (store ! 7 refl (LL.lawful T.the-type T′.the-laws 𝓤 H A W .typed (s .machine) _
+        (LL.owed S.the-type S′.the-laws s _ s-was .0) .0)) $
+        assigns ! (of-opd ! (load ! (from ! (fld ! refl (stop !))) (look-in ! 22 (sub ! 1 refl (whole !))))) (from ! (stop !))
+        (init ! 34 refl (tt, record { fits = LL.owed S.the-type S′.the-laws s _ s-was .1 .0 .1 })) $
         -- the record's borrow is closed
         move ! (7 ∷ []) $ use1 W (‵ (cellAt fullShare (T.the-row .mir) (mach (s .machine) ∷ []) b o)) (W .laws .at-raw fullShare T′.mir b o (mach (s .machine))) $
         owned ! T.the-row (Is T.the-row) (LL.makes T.the-type T′.the-plain 𝓤 H A) (s .machine) _ (LL.owed S.the-type S′.the-laws s _ s-was .0) $ move ! (1 ∷ 0 ∷ 10 ∷ 11 ∷ 12 ∷ []) $
         closes ! tt T.the-row (s .machine) (mach (s .machine) ∷ []) b o $
         -- [obs; the borrow; the token; the result; the tokens; the console's last list; …; memory's; the keys; true; …; _11; …; .. ; _0; …]
-        returns ! (look ! 33 refl) $ forget ! 11 refl $ forget ! 13 refl $ forget ! 15 refl $ forget ! 17 refl $ forget ! 19 refl $ forget ! 21 refl $ forget ! 23 refl $ forget ! 25 refl $ forget ! 27 refl $ forget ! 29 refl $ forget ! 31 refl $ forget ! 33 refl $
-        move ! (33 ∷ 34 ∷ []) $ free1 ! $ move ! (31 ∷ 32 ∷ []) $ free1 ! $ move ! (29 ∷ 30 ∷ []) $ free1 ! $ move ! (27 ∷ 28 ∷ []) $ free1 ! $ move ! (25 ∷ 26 ∷ []) $ free1 ! $ move ! (23 ∷ 24 ∷ []) $ free1 ! $ move ! (21 ∷ 22 ∷ []) $ free1 ! $ move ! (19 ∷ 20 ∷ []) $ free1 ! $ move ! (17 ∷ 18 ∷ []) $ free1 ! $ move ! (15 ∷ 16 ∷ []) $ free1 ! $ move ! (13 ∷ 14 ∷ []) $ free1 ! $ move ! (11 ∷ 12 ∷ []) $ free1 ! $ free0 ! $
-        keep ! (0 ∷ 1 ∷ 2 ∷ 4 ∷ 7 ∷ 5 ∷ 8 ∷ []) $ by ! (exits s (zs .1 .0) (zs .1 .1 .0) (steps-once e (told .0) (told .1)) lm lc (LL.owed S.the-type S′.the-laws s _ s-was .1 .0 .1)))))))))))))))))))))))))))
+        returns ! (look ! 33 refl) $ forget ! 11 refl $ forget ! 13 refl $ forget ! 15 refl $ forget ! 17 refl $ forget ! 19 refl $ forget ! 21 refl
+        $ forget ! 23 refl $ forget ! 25 refl $ forget ! 27 refl $ forget ! 29 refl $ forget ! 31 refl $ forget ! 33 refl $
+        move ! (33 ∷ 34 ∷ []) $ free1 ! $ move ! (31 ∷ 32 ∷ []) $ free1 ! $ move ! (29 ∷ 30 ∷ []) $ free1 ! $ move ! (27 ∷ 28 ∷ []) $ free1 ! $ move
+        ! (25 ∷ 26 ∷ []) $ free1 ! $ move ! (23 ∷ 24 ∷ []) $ free1 ! $ move ! (21 ∷ 22 ∷ []) $ free1 ! $ move ! (19 ∷ 20 ∷ []) $ free1 ! $ move !
+        (17 ∷ 18 ∷ []) $ free1 ! $ move ! (15 ∷ 16 ∷ []) $ free1 ! $ move ! (13 ∷ 14 ∷ []) $ free1 ! $ move ! (11 ∷ 12 ∷ []) $ free1 ! $ free0 ! $
+        keep ! (0 ∷ 1 ∷ 2 ∷ 4 ∷ 7 ∷ 5 ∷ 8 ∷ []) $ by ! (exits s (zs .1 .0) (zs .1 .1 .0) (steps-once e (told .0) (told .1)) lm lc
+        (LL.owed S.the-type S′.the-laws s _ s-was .1 .0 .1)))))))))))))))))))))))))))
 
-module _ {M : Type 1} (𝓤 : URA M) (H : Heap 𝓤) (A : Atoms 𝓤) (W : Given 𝓤 H A) (at-mem : Memory → SProp 𝓤) (run : Routine → Fun 𝓤) (𝓣 : Tables 𝓤 H) (known : Triple 𝓤 (𝓣 .C #v9·run) (Run 𝓤 H A at-mem run)) (known-number : Triple 𝓤 (𝓣 .C #v9·number-of) (Number 𝓤 H A at-mem run)) where
+module _ {M : Type 1} (𝓤 : URA M) (H : Heap 𝓤) (A : Atoms 𝓤) (W : Given 𝓤 H A) (at-mem : Memory → SProp 𝓤) (run : Routine → Fun 𝓤) (𝓣 : Tables 𝓤 H)
+    (known : Triple 𝓤 (𝓣 .C #v9·run) (Run 𝓤 H A at-mem run)) (known-number : Triple 𝓤 (𝓣 .C #v9·number-of) (Number 𝓤 H A at-mem run)) where
   walks : Walks 𝓤 H A f.ended stayed (WpFn 𝓤 H (𝓣 .C) (𝓣 .Λ) code.function) (f.clauses 𝓤 H A at-mem run)
   walks = walked 𝓤 H A f.ended stayed (f.clauses 𝓤 H A at-mem run) (WpFn 𝓤 H (𝓣 .C) (𝓣 .Λ) code.function) (λ κs. (ptr-vals, (slice-vals, (slice-vals, (slice-vals, tt)))))
-      (λ κs. (mut-tells (named 0) (κs .0) T.the-row, (mut-slice-tells (named 1) (κs .1 .0) u8, (mut-slice-tells (named 2) (κs .1 .1 .0) u8, (shr-slice-tells (named 3) (κs .1 .1 .1 .0) K.the-row, tt)))))
+      (λ κs. (
+        mut-tells (named 0) (κs .0) T.the-row,
+        (
+          mut-slice-tells (named 1) (κs .1 .0) u8,
+          (mut-slice-tells (named 2) (κs .1 .1 .0) u8, (shr-slice-tells (named 3) (κs .1 .1 .1 .0) K.the-row, tt)),
+        ),
+      ))
       (λ κs qs bounds a g are. via 𝓤 _ (fst∗ 𝓤 _ (emp 𝓤)) (walk 𝓤 H A W at-mem run (κs .0) (κs .1 .0) (κs .1 .1 .0) (κs .1 .1 .1 .0) (qs .0) (qs .1 .0) (qs .1 .1 .0) (qs .1 .1 .1 .0)
-      (a .0 .ptr .0) (a .0 .ptr .1) (a .0 .name) (a .0 .now) (a .1 .0) (a .1 .1 .0) (a .1 .1 .1 .0) (𝓣 .C) (𝓣 .Λ) (fmOf 𝓤 H (W .laws) 𝓣) known known-number (are .1 .0 .0 .1) (are .1 .1 .0 .0 .1) (are .1 .1 .1 .0 .0 .1)))
+      (a .0 .ptr .0) (a .0 .ptr .1) (a .0 .name) (a .0 .now) (a .1 .0) (a .1 .1 .0) (a .1 .1 .1 .0) (𝓣 .C) (𝓣 .Λ) (fmOf 𝓤 H (W .laws) 𝓣) known
+      known-number (are .1 .0 .0 .1) (are .1 .1 .0 .0 .1) (are .1 .1 .1 .0 .0 .1)))
 
   meets : Meets 𝓤 H A f.signature (WpFn 𝓤 H (𝓣 .C) (𝓣 .Λ) code.function) (f.spec 𝓤 H A at-mem run)
-  meets = walk-meets 𝓤 H A f.ended stayed W (goes-ref 𝓤 H A W 4 0 tt (plain (λ _. T.the-row)), (goes-gave-slice 𝓤 H A W 4 1 tt (plain (λ _. u8)), (goes-gave-slice 𝓤 H A W 4 2 tt (plain (λ _. u8)), (goes-none-slice 𝓤 H A W 4 (3 ∷ []) tt (plain (λ _. K.the-row)) yes, tt))))
+  meets = walk-meets 𝓤 H A f.ended stayed W (
+    goes-ref 𝓤 H A W 4 0 tt (plain (λ _. T.the-row)),
+    (
+      goes-gave-slice 𝓤 H A W 4 1 tt (plain (λ _. u8)),
+      (
+        goes-gave-slice 𝓤 H A W 4 2 tt (plain (λ _. u8)),
+        (goes-none-slice 𝓤 H A W 4 (3 ∷ []) tt (plain (λ _. K.the-row)) yes, tt),
+      ),
+    ),
+  )
       (f.clauses 𝓤 H A at-mem run) (WpFn 𝓤 H (𝓣 .C) (𝓣 .Λ) code.function) (WpFn-mono 𝓤 H (W .laws) 𝓣 code.function) walks
 
 pub single-step-spec : {M : Type 1} → stated.statement M

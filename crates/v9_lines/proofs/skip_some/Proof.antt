@@ -6,20 +6,8 @@ use borrow.Author.Needs.{needs}
 use Rattle.v9_lines.proofs.skip_some.Statement.{statement}
 use Rattle.v9_lines.proofs.skip_some.Tie as tie
 
-buffer-requires : tie.Need-buffer-requires
-buffer-requires c κs = search needs
-
-least-requires : tie.Need-least-requires
-least-requires c κs = search needs
-
-array-borrow-prefix-part : tie.Need-array-borrow-prefix-part
-array-borrow-prefix-part c = search needs
-
 slice-aggregate-read-full : tie.Need-slice-aggregate-read-full
 slice-aggregate-read-full c = sym (length-take-le _ _ (omega (arith, c .before .least .ensures, c .before .before .buffer .ensures)))
-
-read-full-requires : tie.Need-read-full-requires
-read-full-requires c κs = search needs
 
 returns : tie.Need-returns
 returns c =
@@ -32,9 +20,9 @@ pub skip-some-spec : {M : Type 1} → statement M
 skip-some-spec =
     tie.close
     (tie.spec
-    buffer-requires
-    least-requires
-    array-borrow-prefix-part
+    (λ c κs. search needs)
+    (λ c κs. search needs)
+    (λ c. search needs)
     slice-aggregate-read-full
-    read-full-requires
+    (λ c κs. search needs)
     returns)

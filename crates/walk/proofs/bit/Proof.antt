@@ -5,12 +5,9 @@ use Rattle.paging.specs.Walk.{bit}
 use Rattle.walk.proofs.bit.Statement.{statement}
 use Rattle.walk.proofs.bit.Tie as tie
 
-div-result : tie.Need-div-result
-div-result c = search needs
-
 returns : tie.Need-returns
 unfolding bit
 returns c = refl
 
 pub bit-spec : {M : Type 1} → statement M
-bit-spec = tie.close (tie.spec div-result returns)
+bit-spec = tie.close (tie.spec (λ c. search needs) returns)

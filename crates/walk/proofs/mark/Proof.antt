@@ -6,9 +6,6 @@ use Rattle.walk.proofs.Marks.{mark-positive, mark-fits, mark-sets, mark
 use Rattle.walk.proofs.mark.Statement.{statement}
 use Rattle.walk.proofs.mark.Tie as tie
 
-slice-read-w : tie.Need-slice-read-w
-slice-read-w c = search needs
-
 div-if1 : tie.Need-div-if1
 div-if1 c = mark-positive _ (c .before .pre .1)
 
@@ -20,12 +17,6 @@ add-mem c =
           (c .before .before .args .at) 0) (omega (arith, c .before .slice-known .given (c .before .before .args .at))) (c .if1 .taken),
     )
 
-slice-write-mem : tie.Need-slice-write-mem
-slice-write-mem c = search needs
-
-same-length : tie.Need-same-length
-same-length c = search needs
-
 returns : tie.Need-returns
 returns c = mark-sets _ _ _ (c .if1 .taken)
 
@@ -34,4 +25,12 @@ returns-2 c = mark-leaves _ _ _ (c .if1 .left)
 
 pub mark-spec : {M : Type 1} → statement M
 mark-spec =
-    tie.close (tie.spec slice-read-w div-if1 add-mem slice-write-mem same-length returns returns-2)
+    tie.close
+    (tie.spec
+    (λ c. search needs)
+    div-if1
+    add-mem
+    (λ c. search needs)
+    (λ c. search needs)
+    returns
+    returns-2)

@@ -5,15 +5,6 @@ use Rattle.paging.specs.TrapCode.{pageFault}
 use Rattle.walk.proofs.page_fault.Statement.{statement}
 use Rattle.walk.proofs.page_fault.Tie as tie
 
-enum-told : tie.Need-enum-told
-enum-told c = search needs
-
-enum-told-2 : tie.Need-enum-told-2
-enum-told-2 c = search needs
-
-enum-told-3 : tie.Need-enum-told-3
-enum-told-3 c = search needs
-
 returns : tie.Need-returns
 unfolding pageFault
 returns c = sym (ap pageFault (c .enum-told .given .1))
@@ -28,4 +19,11 @@ returns-3 c = sym (ap pageFault (c .enum-told3 .given .1))
 
 pub page-fault-spec : {M : Type 1} → statement M
 page-fault-spec =
-    tie.close (tie.spec enum-told enum-told-2 enum-told-3 returns returns-2 returns-3)
+    tie.close
+    (tie.spec
+    (λ c. search needs)
+    (λ c. search needs)
+    (λ c. search needs)
+    returns
+    returns-2
+    returns-3)

@@ -5,9 +5,6 @@ use Rattle.word.proofs.Extension.{extend-clear, extend-set}
 use Rattle.word.proofs.immediate.Statement.{statement}
 use Rattle.word.proofs.immediate.Tie as tie
 
-add-result : tie.Need-add-result
-add-result c = search needs
-
 returns : tie.Need-returns
 returns c = extend-clear 24 (omega arith)
 
@@ -15,4 +12,4 @@ returns-2 : tie.Need-returns-2
 returns-2 c = extend-set 24 (omega arith)
 
 pub immediate-spec : {M : Type 1} → statement M
-immediate-spec = tie.close (tie.spec add-result returns returns-2)
+immediate-spec = tie.close (tie.spec (λ c. search needs) returns returns-2)

@@ -9,17 +9,8 @@ use Rattle.word.proofs.Shift.{shift-fits}
 use Rattle.word.proofs.shift_right.Statement.{statement}
 use Rattle.word.proofs.shift_right.Tie as tie
 
-signed-requires : tie.Need-signed-requires
-signed-requires c κs = search needs
-
-cast-unsigned : tie.Need-cast-unsigned
-cast-unsigned c = search needs
-
 shr-unsigned : tie.Need-shr-unsigned
 shr-unsigned c = search needs
-
-unsigned-requires : tie.Need-unsigned-requires
-unsigned-requires c κs = search needs
 
 returns : tie.Need-returns
 unfolding shiftRight shiftCount
@@ -29,4 +20,10 @@ returns c =
 
 pub shift-right-spec : {M : Type 1} → statement M
 shift-right-spec =
-    tie.close (tie.spec signed-requires cast-unsigned shr-unsigned unsigned-requires returns)
+    tie.close
+    (tie.spec
+    (λ c κs. search needs)
+    (λ c. search needs)
+    shr-unsigned
+    (λ c κs. search needs)
+    returns)

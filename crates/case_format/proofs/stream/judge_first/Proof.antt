@@ -6,17 +6,14 @@ use borrow.Author.Needs.{needs}
 use Rattle.case_format.proofs.stream.judge_first.Statement.{statement}
 use Rattle.case_format.proofs.stream.judge_first.Tie as tie
 
-returns : tie.Need-returns
-returns c = search needs
-
 slice-aggregate-judge : tie.Need-slice-aggregate-judge
 slice-aggregate-judge c = sym (length-take-le _ _ (omega arith))
 
-judge-requires : tie.Need-judge-requires
-judge-requires c κs = search needs
-
-returns-2 : tie.Need-returns-2
-returns-2 c = search needs
-
 pub judge-first-spec : {M : Type 1} → statement M
-judge-first-spec = tie.close (tie.spec returns slice-aggregate-judge judge-requires returns-2)
+judge-first-spec =
+    tie.close
+    (tie.spec
+    (λ c. search needs)
+    slice-aggregate-judge
+    (λ c κs. search needs)
+    (λ c. search needs))

@@ -8,12 +8,6 @@ use Rattle.clock.proofs.quiet.after.Tie as tie
 returns : tie.Need-returns
 returns c = rw (eq-eqb _ _ (c .if1 .taken))
 
-sub-passed : tie.Need-sub-passed
-sub-passed c = search needs
-
-cast-timer : tie.Need-cast-timer
-cast-timer c = search needs
-
 add-timer : tie.Need-add-timer
 add-timer c = omega (arith, c .before .before .before .before .before .pre .timer (c .before .before .before .if1 .left), c .before .before .before .before .struct-known .given)
 
@@ -24,4 +18,4 @@ returns-2 : tie.Need-returns-2
 returns-2 c = rw (ne-eqb _ _ (c .before .before .before .before .if1 .left))
 
 pub after-spec : {M : Type 1} → statement M
-after-spec = tie.close (tie.spec returns sub-passed cast-timer add-timer cast-timer-2 returns-2)
+after-spec = tie.close (tie.spec returns (λ c. search needs) (λ c. search needs) add-timer cast-timer-2 returns-2)

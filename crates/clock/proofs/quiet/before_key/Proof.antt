@@ -11,12 +11,6 @@ returns c = key-none _ _ _ (not-true _ (c .if1 .taken))
 returns-2 : tie.Need-returns-2
 returns-2 c = key-now _ _ _ (not-false _ (c .before .before .if1 .left)) (c .if2 .taken)
 
-sub-gap : tie.Need-sub-gap
-sub-gap c = search needs
-
-sub-gap-2 : tie.Need-sub-gap-2
-sub-gap-2 c = search needs
-
 returns-3 : tie.Need-returns-3
 returns-3 c = key-soon _ _ _ (not-false _ (c .before .before .before .before .if1 .left)) (c .if3 .taken)
 
@@ -24,4 +18,4 @@ returns-4 : tie.Need-returns-4
 returns-4 c = key-later _ _ _ (not-false _ (c .before .before .before .before .if1 .left)) (c .if3 .left)
 
 pub before-key-spec : {M : Type 1} → statement M
-before-key-spec = tie.close (tie.spec returns returns-2 sub-gap sub-gap-2 returns-3 returns-4)
+before-key-spec = tie.close (tie.spec returns returns-2 (λ c. search needs) (λ c. search needs) returns-3 returns-4)

@@ -10,12 +10,6 @@ returns c = timer-off _ _ (c .if1 .taken)
 returns-2 : tie.Need-returns-2
 returns-2 c = timer-now _ _ (c .before .before .if1 .left) (c .if2 .taken)
 
-sub-gap : tie.Need-sub-gap
-sub-gap c = search needs
-
-cast-gap : tie.Need-cast-gap
-cast-gap c = search needs
-
 returns-3 : tie.Need-returns-3
 returns-3 c = timer-soon _ _ (c .before .before .before .before .if1 .left) (c .if3 .taken)
 
@@ -23,4 +17,4 @@ returns-4 : tie.Need-returns-4
 returns-4 c = timer-later _ _ (c .before .before .before .before .if1 .left) (c .if3 .left)
 
 pub before-timer-spec : {M : Type 1} → statement M
-before-timer-spec = tie.close (tie.spec returns returns-2 sub-gap cast-gap returns-3 returns-4)
+before-timer-spec = tie.close (tie.spec returns returns-2 (λ c. search needs) (λ c. search needs) returns-3 returns-4)

@@ -8,15 +8,9 @@ returns : tie.Need-returns
 unfolding quietSteps
 returns c = rw (c .if1 .taken)
 
-before-key-requires : tie.Need-before-key-requires
-before-key-requires c κs = search needs
-
-before-timer-requires : tie.Need-before-timer-requires
-before-timer-requires c κs = search needs
-
 returns-2 : tie.Need-returns-2
 unfolding quietSteps
 returns-2 c = rw (c .before .before .if1 .left, c .before-timer .ensures, c .before .before-key .ensures)
 
 pub steps-spec : {M : Type 1} → statement M
-steps-spec = tie.close (tie.spec returns before-key-requires before-timer-requires returns-2)
+steps-spec = tie.close (tie.spec returns (λ c κs. search needs) (λ c κs. search needs) returns-2)

@@ -6,11 +6,17 @@ use Rattle.system.proofs.pdir.pdir.Tie as tie
 
 returns : tie.Need-returns
 returns c =
-    λ con. pdir-set _ (c .before .before .before .empty .ensures .0) (c .before .before .before .empty .ensures .1) (c .before .before .before .before .before .before .before .before .before .pre .0) (c .before .before .before .before .before .before .if1 .taken) (c .before .before .before .before .before .before .before .before .before .pre .1) (c .set-space .ensures)
+    let empty = c .before .before .before .empty in
+    let if1 = c .before .before .before .before .before .before .if1 in
+    let pre = c .before .before .before .before .before .before .before .before .before .pre in
+    λ con. pdir-set _ (empty .ensures .0) (empty .ensures .1) (pre .0) (if1 .taken) (pre .1) (c .set-space .ensures)
 
 returns-2 : tie.Need-returns-2
 returns-2 c =
-    λ con. pdir-fault _ (c .before .before .before .before .before .before .before .before .before .if1 .left) (c .before .before .before .before .before .before .before .before .next-pc .ensures) (c .before .before .before .before .fault .ensures con)
+    let fault = c .before .before .before .before .fault in
+    let next-pc = c .before .before .before .before .before .before .before .before .next-pc in
+    let if1 = c .before .before .before .before .before .before .before .before .before .if1 in
+    λ con. pdir-fault _ (if1 .left) (next-pc .ensures) (fault .ensures con)
 
 pub pdir-spec : {M : Type 1} → statement M
 pdir-spec =

@@ -3,11 +3,8 @@ use borrow.Author.Needs.{needs}
 use Rattle.system.proofs.plain.cli.Statement.{statement}
 use Rattle.system.proofs.plain.cli.Tie as tie
 
-flag-requires : tie.Need-flag-requires
-flag-requires c κs = search needs
-
 returns : tie.Need-returns
 returns c = rw (c .before .before .flag .ensures)
 
 pub cli-spec : {M : Type 1} → statement M
-cli-spec = tie.close (tie.spec flag-requires returns)
+cli-spec = tie.close (tie.spec (λ c κs. search needs) returns)

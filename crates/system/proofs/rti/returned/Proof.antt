@@ -5,15 +5,6 @@ use Rattle.paging.specs.Walk.{bit}
 use Rattle.system.proofs.rti.returned.Statement.{statement}
 use Rattle.system.proofs.rti.returned.Tie as tie
 
-sum-requires : tie.Need-sum-requires
-sum-requires c κs = search needs
-
-mul-sp : tie.Need-mul-sp
-mul-sp c = search needs
-
-mul-next : tie.Need-mul-next
-mul-next c = search needs
-
 returns : tie.Need-returns
 unfolding bit
 returns c =
@@ -27,4 +18,4 @@ returns-2 c =
     rw (ne-eqb _ _ (c .if1 .left), s4 .sum .ensures)
 
 pub returned-spec : {M : Type 1} → statement M
-returned-spec = tie.close (tie.spec sum-requires mul-sp mul-next returns returns-2)
+returned-spec = tie.close (tie.spec (λ c κs. search needs) (λ c. search needs) (λ c. search needs) returns returns-2)
