@@ -1,7 +1,7 @@
 -- Demand 3's exception is needed: a program that stores into a word of an entry held. Both machines agree after that step; one step later they differ.
 use Prim.Native.Nat.{ℕ}
 use mathlib.Core.Path.{_≡_, refl}
-use mathlib.Core.Bool.{true, false}
+use mathlib.Core.Bool.{true}
 use mathlib.Core.List.{List, [], _∷_, map}
 use lib.ListN.{replicate}
 use Rattle.paging.specs.Held.{storesHeld, touchesHeld, touches}

@@ -1,7 +1,6 @@
 // Document 01, "Opcodes": the block instructions, one byte a step.
 ghost use mathlib.Core.Path.{_≡_};
 ghost use mathlib.Core.List.{[]};
-ghost use Prim.Native.Nat.{ℕ, _<_};
 ghost use lib.ListN.{length};
 ghost use Rattle.decode.specs.declared.BlockOp.the-variants.{Mcpy, Mcmp, Mchr, Mset};
 ghost use Rattle.mmu.specs.Good.{Good};

@@ -6,7 +6,6 @@ use mathlib.Core.List.{List}
 use lib.ListN.{length}
 use borrow.Author.Tests.{not-true, not-false, lt-leb, le-leb, ne-eqb, eq-eqb}
 use Rattle.memory.specs.Memory.{sizeOk}
-use Rattle.executable.specs.declared.LoadAnswer.{LoadAnswer}
 use Rattle.executable.specs.declared.LoadAnswer.the-variants.{Accepted, BadSize, ShortFile, BadMagic, BadBody, BadDataStart, BadEntry}
 use Rattle.executable.specs.Executable.{magicOf, entryOf, dataStartOf, bodyOk, entryOk, loadAnswer}
 

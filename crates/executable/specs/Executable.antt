@@ -1,6 +1,6 @@
 -- Document 01, "The record and the loaded program" and "Numbers returned": the executable, and a load's refusals, apart from any machine.
 use Prim.Native.Nat.{ℕ, _+_, _-_, _%_}
-use mathlib.Core.Bool.{Bool, true, false, _&&_}
+use mathlib.Core.Bool.{Bool, _&&_}
 use mathlib.Core.List.{List}
 use lib.ListN.{length, drop}
 use lib.Dec.{eqb, ltb, leb}

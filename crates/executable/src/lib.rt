@@ -1,7 +1,6 @@
 // Document 01, "Numbers returned": a load's refusals, apart from any machine.
 ghost use mathlib.Core.Path.{_≡_};
-ghost use Prim.Native.Nat.{ℕ, _+_, _-_, _≤_};
-ghost use lib.ListN.{length};
+ghost use Prim.Native.Nat.{_+_, _-_};
 ghost use Rattle.executable.specs.Executable.{loadNumber, bodyOk, entryOk, loadAnswer};
 
 // What a load answers.

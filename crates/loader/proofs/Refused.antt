@@ -1,6 +1,6 @@
 -- Document 01, "Numbers returned": "A refused load returns an all-zero record and leaves memory", by the contract of `loader::load`. Assumes nothing.
 use Prim.Native.Nat.{ℕ}
-use mathlib.Core.Path.{_≡_, refl, ap}
+use mathlib.Core.Path.{_≡_, ap}
 use mathlib.Core.List.{List}
 use lib.ListN.{length}
 use Rattle.executable.specs.declared.LoadAnswer.{LoadAnswer}

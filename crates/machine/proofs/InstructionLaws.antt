@@ -8,7 +8,6 @@ use mathlib.Core.Path.{_≡_, refl, sym, ap, _∙_, subst}
 use lib.ListN.{length}
 use types.Run.{OneOf}
 use denote.Enum.Declared as Declared
-use Rattle.paging.specs.declared.Entry.{Entry}
 use Rattle.paging.specs.declared.Space.{Space}
 use Rattle.mmu.specs.Good.{Good}
 use Rattle.mmu.specs.Translates.{Kept, result, keptIn, translator}

@@ -11,7 +11,7 @@ use Rattle.rules.specs.Outcome.{Out, fine, unfetched, trap, refused, system}
 use Rattle.rules.specs.Trap.{Final, nextPc}
 use Rattle.rules.specs.Step.{State, finished, settleTree}
 use Rattle.contracts.specs.declared.Done.{Done}
-use Rattle.contracts.specs.Contract.{outOf, madeBy, made, stateOf, Executes, Finishes}
+use Rattle.contracts.specs.Contract.{outOf, madeBy, made, Executes, Finishes}
 use Rattle.contracts.proofs.Trees.{bind-law}
 use Rattle.system.proofs.OlderGrants.{ends, run, fresh-trap, fresh-fault, fresh-system}
 

@@ -3,14 +3,12 @@ use Prim.Native.Nat.{ℕ, _+_, _<_, _^_}
 use mathlib.Core.Path.{_≡_}
 use mathlib.Core.List.{List}
 use lib.ListN.{length}
-use Rattle.mmu.specs.Translates.{translator}
 use Rattle.mmu.specs.Good.{Good}
 use Rattle.rules.specs.declared.Cpu.{Cpu}
 use Rattle.rules.specs.declared.Key.{Key}
 use Rattle.rules.specs.declared.Next.{Next}
 use Rattle.rules.specs.declared.Stop.the-variants.{Running}
 use Rattle.rules.specs.Clock.{nextOf}
-use Rattle.rules.specs.Run.{stepsOf, lastOf}
 use Rattle.contracts.specs.Contract.{stateOf, endOf}
 use Rattle.machine.specs.declared.Advanced.{Advanced}
 

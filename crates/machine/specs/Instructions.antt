@@ -3,9 +3,8 @@ use Prim.Native.Nat.{ℕ, _+_, _-_, _≤_, _<_}
 use mathlib.Core.Path.{_≡_}
 use mathlib.Core.List.{List, []}
 use lib.ListN.{length}
-use Rattle.paging.specs.declared.Entry.{Entry}
 use Rattle.mmu.specs.Good.{Good}
-use Rattle.mmu.specs.Translates.{Kept, Result, result, keptIn, translator}
+use Rattle.mmu.specs.Translates.{Result, result, keptIn, translator}
 use Rattle.rules.specs.declared.Regs.{Regs}
 use Rattle.rules.specs.declared.Cpu.{Cpu}
 use Rattle.rules.specs.declared.Key.{Key}
@@ -15,8 +14,6 @@ use Rattle.rules.specs.Tree.{interpret}
 use Rattle.rules.specs.Outcome.{Out}
 use Rattle.rules.specs.Execute.{instructionTree}
 use Rattle.rules.specs.Clock.{nextOf}
-use Rattle.rules.specs.Step.{State}
-use Rattle.rules.specs.Run.{stepsOf, lastOf}
 use Rattle.contracts.specs.declared.Done.{Done}
 use Rattle.contracts.specs.declared.End.the-variants.{Ok}
 use Rattle.contracts.specs.Contract.{ok, outOf, made, stateOf, endOf}

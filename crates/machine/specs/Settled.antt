@@ -2,7 +2,6 @@
 use Prim.Native.Nat.{ℕ}
 use mathlib.Core.List.{List, []}
 use lib.ListN.{length}
-use Rattle.paging.specs.declared.Entry.{Entry}
 use Rattle.mmu.specs.Translates.{Kept, Result, translator}
 use Rattle.rules.specs.declared.Cpu.{Cpu}
 use Rattle.rules.specs.Tree.{interpret}

@@ -1,7 +1,6 @@
 // Document 01, "One step": instructions one after another, a step, and a run's advance.
 ghost use mathlib.Core.Path.{_≡_};
-ghost use mathlib.Core.List.{List};
-ghost use Prim.Native.Nat.{ℕ, _+_, _≤_, _<_, _^_};
+ghost use Prim.Native.Nat.{_+_, _≤_, _<_, _^_};
 ghost use lib.ListN.{length};
 ghost use Rattle.mmu.specs.Good.{Good};
 ghost use Rattle.rules.specs.Record.{withCount, withRegs};

@@ -8,7 +8,7 @@ use Rattle.paging.specs.declared.Access.{Access}
 use Rattle.paging.specs.declared.Access.the-variants.{Read, Write}
 use Rattle.paging.specs.declared.Answer.{Answer}
 use Rattle.paging.specs.declared.Entry.{Entry}
-use Rattle.paging.specs.Event.{Event, walked, kept, emptied, marked, stored, delivered, Words}
+use Rattle.paging.specs.Event.{walked, kept, emptied, marked, stored, delivered, Words}
 use Rattle.paging.specs.Walk.{bit, mark, markFor, markEvents, dirAt, tabAt, allows, walk, found}
 use Rattle.paging.specs.Buffer.{serves, hit, has, place, fits, afterWalk, walkEvents}
 use Rattle.paging.specs.Held.{heldAfter, touches, touchesHeld, storesHeld}

@@ -1,5 +1,5 @@
 -- Document 01, "Addresses" and "The table reader": translation, in the machine with the page buffer and in the table reader.
-use Prim.Native.Nat.{ℕ, zero, suc, _+_, _*_, _/_, _%_}
+use Prim.Native.Nat.{ℕ, _+_, _*_, _/_, _%_}
 use mathlib.Core.Bool.{Bool, true, false}
 use mathlib.Core.List.{List, [], _∷_, _++_}
 use mathlib.Core.Option.{Option, none, some}
@@ -9,7 +9,6 @@ use Rattle.word.specs.Word.{if_then_else_, cut}
 use Rattle.paging.specs.declared.Access.{Access}
 use Rattle.paging.specs.declared.Entry.{Entry}
 use Rattle.paging.specs.declared.Space.{Space}
-use Rattle.paging.specs.declared.Fault.{Fault}
 use Rattle.paging.specs.declared.Answer.{Answer}
 use Rattle.paging.specs.declared.Answer.the-variants.{At, Denied}
 use Rattle.paging.specs.TrapCode.{FMEM}

@@ -1,7 +1,7 @@
 -- Document 01, "Numbers returned": "lower number wins", as the code tests.
 use Prim.Native.Nat.{ℕ}
 use mathlib.Core.Bool.{Bool, true, false, _&&_}
-use mathlib.Core.Path.{_≡_, refl}
+use mathlib.Core.Path.{_≡_}
 use lib.Dec.{leb}
 use Rattle.memory.specs.Memory.{sizeOk}
 use Rattle.paging.specs.Buffer.{bufferOk}

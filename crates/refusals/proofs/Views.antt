@@ -5,7 +5,6 @@ use mathlib.Core.Path.{_≡_, sym, _∙_, ap}
 use mathlib.Core.List.{List}
 use lib.ListN.{length}
 use Rattle.paging.specs.declared.Entry.{Entry}
-use Rattle.rules.specs.declared.Cpu.{Cpu}
 use Rattle.rules.specs.declared.Machine.{Machine}
 use Rattle.rules.specs.Step.{State}
 use Rattle.refusals.specs.View.{entriesOf, viewOf}

@@ -1,15 +1,14 @@
 -- Document 01, "Worked lines": the two lines are all: the run of an accepted load is never refused. Assumes nothing.
-use Prim.Native.Nat.{ℕ, _+_, _-_, _%_, _<_, _≤_}
+use Prim.Native.Nat.{ℕ, _-_, _%_, _<_, _≤_}
 use mathlib.Core.Bool.{Bool, true, false, _&&_, false≢true}
-use mathlib.Core.List.{List, [], _++_}
-use mathlib.Core.Path.{_≡_, refl, sym, _∙_, ap}
+use mathlib.Core.List.{List}
+use mathlib.Core.Path.{_≡_, refl, ap}
 use native.Mathlib.Omega.{arith}
 use borrow.Author.Tests.{leb-true, ltb-true, eqb-true, eq-eqb, lt-ltb, le-leb}
 use lib.Dec.{eqb, ltb, leb}
-use lib.ListN.{length, length-append, length-drop, length-replicate, replicate}
+use lib.ListN.{length, length-append, length-drop, length-replicate}
 use Rattle.word.specs.Word.{if_then_else_}
 use Rattle.memory.specs.Memory.{sizeOk}
-use Rattle.paging.specs.Translate.{buffered}
 use Rattle.paging.specs.Buffer.{bufferOk, entriesOk}
 use Rattle.executable.specs.declared.LoadAnswer.{LoadAnswer}
 use Rattle.executable.specs.declared.LoadAnswer.the-variants.{Accepted}
@@ -17,7 +16,7 @@ use Rattle.executable.specs.Executable.{loadNumber, magicOf, entryOf, dataStart
 use Rattle.rules.specs.declared.RunAnswer.the-variants.{Accepted as Runs, BadConsole}
 use Rattle.rules.specs.Load.{freshCpu, image, load}
 use Rattle.rules.specs.Run.{runAnswer, registersOk, keysOk, keysRise, run}
-use Rattle.result_line.specs.Program.{startOf, runOf}
+use Rattle.result_line.specs.Program.{runOf}
 
 -- a choice whose other side is a refusal
 chosen : (t : Bool) (x y : LoadAnswer) → 0 < loadNumber y → (if t then x else y) ≡ Accepted → (t ≡ true) × (x ≡ Accepted)

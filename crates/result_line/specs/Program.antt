@@ -1,6 +1,5 @@
 -- Document 01, "Worked lines": what the run program prints of an executable, by the rules of a load and a run.
 use Prim.Native.Nat.{ℕ}
-use mathlib.Core.Bool.{true, false}
 use mathlib.Core.List.{List, []}
 use lib.Dec.{eqb}
 use lib.ListN.{replicate}

@@ -5,7 +5,6 @@ use mathlib.Core.Bool.{true}
 use mathlib.Core.List.{List, [], _∷_}
 use lib.ListN.{replicate}
 use Rattle.memory.specs.Memory.{loadN, storeN}
-use Rattle.paging.specs.declared.Entry.{Entry}
 use Rattle.paging.specs.Translate.{direct, translateBy, buffered}
 use Rattle.rules.specs.declared.Cpu.{Cpu}
 use Rattle.rules.specs.declared.Key.{Key}
@@ -13,7 +12,7 @@ use Rattle.rules.specs.Record.{withClock, withSystem, withTimer, withTim
 use Rattle.rules.specs.Clock.{nextOf, ticked, dueOf}
 use Rattle.rules.specs.Load.{freshCpu}
 use Rattle.rules.specs.Tree.{storeAll, storeEvents, answered, interpret}
-use Rattle.rules.specs.Step.{State, step}
+use Rattle.rules.specs.Step.{step}
 
 -- interrupts are on
 enabled : Cpu

@@ -9,7 +9,7 @@ use Rattle.paging.specs.Translate.{Translator}
 use Rattle.rules.specs.declared.Key.{Key}
 use Rattle.rules.specs.Record.{isRunning}
 use Rattle.rules.specs.Step.{State}
-use Rattle.rules.specs.Run.{isAccepted, allowance, runAnswer, stepsOf, lastOf, run, reported}
+use Rattle.rules.specs.Run.{isAccepted, allowance, runAnswer, stepsOf, run, reported}
 
 module _ {B : Type 0} (tr : Translator B) (ks : List Key) (budget : ℕ) (s : State B) where
   -- a run that makes no step ends in the state that it starts from

@@ -1,5 +1,5 @@
 -- Document 01, "The record and the loaded program": the record's numbers with keys taken and console bytes written are the whole record.
-use mathlib.Core.Path.{_≡_, refl, ap, sym, _∙_}
+use mathlib.Core.Path.{_≡_, refl, sym, _∙_}
 use mathlib.Core.Bool.{Bool, true, false}
 use Rattle.rules.specs.declared.Cpu.{Cpu}
 use Rattle.rules.specs.declared.Stop.{Stop}

@@ -1,6 +1,5 @@
 -- Document 01, "Opcodes": "Block opcodes do one byte a step". pc has moved 4 on already.
-use Prim.Native.Nat.{ℕ, _+_, _%_}
-use mathlib.Core.Bool.{Bool}
+use Prim.Native.Nat.{ℕ, _%_}
 use lib.Dec.{eqb}
 use Rattle.word.specs.Word.{if_then_else_, sum, difference}
 use Rattle.decode.specs.declared.BlockOp.{BlockOp}

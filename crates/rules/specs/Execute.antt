@@ -1,5 +1,5 @@
 -- Document 01, "Opcodes" and "One step", rule 5: fetch, then every kept instruction.
-use Prim.Native.Nat.{ℕ, _+_, _%_, _^_}
+use Prim.Native.Nat.{_%_, _^_}
 use mathlib.Core.Bool.{not}
 use lib.Dec.{eqb}
 use Rattle.word.specs.Word.{sum}
@@ -11,7 +11,7 @@ use Rattle.paging.specs.TrapCode.{FINST, FSYS}
 use Rattle.rules.specs.declared.Regs.{Regs}
 use Rattle.rules.specs.Record.{withA, withB, withC, withPc, setSp}
 use Rattle.rules.specs.Tree.{Reply, got, denied, Tree, ask, done, access}
-use Rattle.rules.specs.Outcome.{Out, fine, unfetched, trap, system, plain}
+use Rattle.rules.specs.Outcome.{Out, unfetched, trap, system, plain}
 use Rattle.rules.specs.Arithmetic.{aluFrom, holds, flag}
 use Rattle.rules.specs.Transfer.{regOf, putReg, loadTree, storeTree, highOf, pushTree, popTree}
 use Rattle.rules.specs.Jump.{target, jumped, branched, indexed, callTree, leaveTree}

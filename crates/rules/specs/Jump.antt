@@ -1,5 +1,5 @@
 -- Document 01, "Opcodes": jumps, calls and returns. pc has moved 4 on already.
-use Prim.Native.Nat.{ℕ, _+_, _/_}
+use Prim.Native.Nat.{ℕ, _/_}
 use mathlib.Core.Path.{_≡_, refl}
 use mathlib.Core.Bool.{Bool}
 use Rattle.word.specs.Word.{if_then_else_, sum}

@@ -1,7 +1,7 @@
 -- Document 01, "The record and the loaded program": what a load gives.
 use Prim.Native.Nat.{ℕ, _-_}
-use mathlib.Core.Bool.{Bool, true, false}
-use mathlib.Core.List.{List, [], _∷_, _++_}
+use mathlib.Core.Bool.{false}
+use mathlib.Core.List.{List, _++_}
 use lib.ListN.{length, replicate}
 use Rattle.executable.specs.declared.LoadAnswer.{LoadAnswer}
 use Rattle.executable.specs.declared.LoadAnswer.the-variants.{Accepted, BadSize, ShortFile, BadMagic, BadBody, BadDataStart, BadEntry}

@@ -1,5 +1,5 @@
 -- Document 01, "The record and the loaded program": its numbers for the stop reasons, and the record with one part put in place.
-use Prim.Native.Nat.{ℕ, _+_}
+use Prim.Native.Nat.{ℕ}
 use mathlib.Core.Bool.{Bool, true, false}
 use Rattle.word.specs.Word.{cut}
 use Rattle.paging.specs.declared.Space.{Space}

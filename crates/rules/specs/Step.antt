@@ -1,6 +1,6 @@
 -- Document 01, "One step": a step of the machine with the page buffer and of the table reader, by one rule.
 use Prim.Native.Nat.{ℕ, _+_}
-use mathlib.Core.Bool.{Bool, true, false}
+use mathlib.Core.Bool.{false}
 use mathlib.Core.List.{List, [], _∷_, _++_}
 use mathlib.Core.Option.{Option, none, some}
 use lib.ListN.{length, set}
@@ -12,7 +12,7 @@ use Rattle.rules.specs.declared.Cpu.{Cpu}
 use Rattle.rules.specs.declared.Key.{Key}
 use Rattle.rules.specs.declared.Next.{Next}
 use Rattle.rules.specs.Record.{withCount, withRegs, withSpace, withSystem, withWaiting}
-use Rattle.rules.specs.Tree.{Tree, done, bind, Ended, storeAll, storeEvents, interpret}
+use Rattle.rules.specs.Tree.{Tree, bind, Ended, storeAll, storeEvents, interpret}
 use Rattle.rules.specs.Outcome.{Out, fine, unfetched, trap, refused, system}
 use Rattle.rules.specs.Execute.{instructionTree}
 use Rattle.rules.specs.Trap.{Effect, none as nothing, setSpace, deliver, print, Final, final, ended, deliverTree, trapTree, faultTree, nextPc}

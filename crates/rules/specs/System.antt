@@ -1,21 +1,18 @@
 -- Document 01, "Opcodes", the privileged instructions, and "Traps", RTI. Where a definition does not say otherwise, c is the record before the fetch.
-use Prim.Native.Nat.{ℕ, _+_, _/_, _%_}
+use Prim.Native.Nat.{ℕ, _+_, _%_}
 use mathlib.Core.Bool.{Bool, true, false, not}
-use mathlib.Core.List.{List, [], _∷_}
-use lib.ListN.{length, set}
+use mathlib.Core.List.{[]}
 use lib.Dec.{eqb, ltb}
 use Rattle.word.specs.Word.{if_then_else_, sum, cut}
 use Rattle.decode.specs.declared.SysOp.{SysOp}
 use Rattle.decode.specs.declared.SysOp.the-variants.{Halt, Cli, Sti, Rti, Bin, Bout, Ssp, Ivec, Pdir, Spag, Time, Lvad, Lusp, Susp, Msiz, Idle}
 use Rattle.paging.specs.declared.Access.the-variants.{Read}
-use Rattle.paging.specs.declared.Space.{Space}
-use Rattle.paging.specs.declared.Fault.{Fault}
 use Rattle.paging.specs.Walk.{bit}
 use Rattle.paging.specs.TrapCode.{FMEM, FPRIV, USER}
 use Rattle.rules.specs.declared.Stop.the-variants.{Halted}
 use Rattle.rules.specs.declared.Cpu.{Cpu}
 use Rattle.rules.specs.Record.{setPc, setSp, withSp, withRegs, withSystem, withClock, withStop, withWritten, withUsp, withKsp, withPdir, withPaging, withIvec, withUser, withIena, withWaiting, withTimeout, withKbchar, putA}
-use Rattle.rules.specs.Tree.{Reply, got, denied, Tree, ask, done, access}
+use Rattle.rules.specs.Tree.{Reply, got, denied, Tree, ask, access}
 use Rattle.rules.specs.Arithmetic.{flag}
 use Rattle.rules.specs.Execute.{moved}
 use Rattle.rules.specs.Trap.{Final, final, ended, setSpace, print, nextPc, trapTree, faultTree}

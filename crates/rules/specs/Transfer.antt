@@ -11,7 +11,7 @@ use Rattle.decode.specs.declared.Base.the-variants as base
 use Rattle.decode.specs.declared.Format.{Format}
 use Rattle.decode.specs.declared.Format.the-variants.{Uint, Short, Ushort, Char, Uchar}
 use Rattle.rules.specs.declared.Regs.{Regs}
-use Rattle.rules.specs.Record.{withA, withB, withC, setSp, setPc}
+use Rattle.rules.specs.Record.{withA, withB, withC, setSp}
 use Rattle.rules.specs.Tree.{Tree}
 use Rattle.rules.specs.Outcome.{Out, plain, reading, writing}
 

@@ -1,6 +1,6 @@
 -- Document 01, "Traps": delivery, and the stops. c is the record before the fetch or delivery: its count is raised, and a denied access has set vadr.
-use Prim.Native.Nat.{ℕ, _+_}
-use mathlib.Core.Bool.{Bool, true, false}
+use Prim.Native.Nat.{ℕ}
+use mathlib.Core.Bool.{false}
 use mathlib.Core.List.{List, [], _∷_}
 use Rattle.word.specs.Word.{if_then_else_, sum, difference}
 use Rattle.paging.specs.declared.Space.{Space}

@@ -1,8 +1,8 @@
 -- A step as a tree of accesses: `ask` for one and go on with the reply, or be `done`. Both machines interpret the same trees.
 -- All stores stand in the leaf, and name no address: the values go, in order, through the latest granted writes. So nothing is translated after
 -- a store, a faulting instruction changes no byte, and what is stored was translated for writing.
-use Prim.Native.Nat.{ℕ, _+_}
-use mathlib.Core.Bool.{Bool, true, false}
+use Prim.Native.Nat.{ℕ}
+use mathlib.Core.Bool.{Bool, false}
 use mathlib.Core.List.{List, [], _∷_, _++_}
 use Rattle.word.specs.Word.{if_then_else_}
 use Rattle.memory.specs.Memory.{loadN, storeN}

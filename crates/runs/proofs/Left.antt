@@ -6,8 +6,7 @@ use mathlib.Core.Bool.{Bool, true, false}
 use mathlib.Core.Path.{_≡_, refl}
 use mathlib.Core.List.{List}
 use Rattle.word.specs.Word.{if_then_else_}
-use Rattle.paging.specs.declared.Entry.{Entry}
-use Rattle.mmu.specs.Translates.{Kept, translator}
+use Rattle.mmu.specs.Translates.{Kept}
 use Rattle.rules.specs.declared.Key.{Key}
 use Rattle.rules.specs.declared.Stop.{Stop}
 use Rattle.rules.specs.declared.Stop.the-variants.{Running, Halted, Masked, NoFrame}

@@ -1,5 +1,5 @@
 -- Document 01, "Numbers returned": a run goes on by one key, from what its parts ensure.
-use Prim.Native.Nat.{ℕ, _+_, _-_, _≤_, _<_}
+use Prim.Native.Nat.{ℕ, _+_, _-_, _≤_}
 use native.Mathlib.Omega.{arith}
 use mathlib.Core.Bool.{Bool}
 use mathlib.Core.Path.{_≡_, refl, sym, _∙_, ap, subst}
@@ -9,22 +9,19 @@ use Rattle.paging.specs.declared.Entry.{Entry}
 use Rattle.paging.specs.Buffer.{bufferOk}
 use Rattle.buffer.specs.Held.{count, Buffer}
 use Rattle.mmu.specs.Translates.{keptIn}
-use Rattle.mmu.specs.Good.{Good}
 use Rattle.clock.specs.Due.{KeyFits}
 use Rattle.rules.specs.declared.Cpu.{Cpu}
-use Rattle.rules.specs.declared.Key.{Key}
 use Rattle.rules.specs.declared.Next.{Next}
 use Rattle.rules.specs.declared.Machine.{Machine}
 use Rattle.rules.specs.declared.RunAnswer.{RunAnswer}
 use Rattle.rules.specs.Clock.{nextOf}
 use Rattle.rules.specs.Run.{allowance}
-use Rattle.contracts.specs.Contract.{stateOf, endOf}
+use Rattle.contracts.specs.Contract.{endOf}
 use Rattle.machine.specs.declared.Advanced.{Advanced}
 use Rattle.machine.specs.Advance.{Ready}
 use Rattle.refusals.specs.Refusal.{refusalOf}
-use Rattle.refusals.specs.View.{firstSlots, entriesOf, viewOf}
+use Rattle.refusals.specs.View.{firstSlots, entriesOf}
 use Rattle.runs.specs.declared.UnderWay.{UnderWay}
-use Rattle.runs.specs.declared.RunResult.{RunResult}
 use Rattle.runs.specs.Advance.{Goes, leftOf}
 use Rattle.runs.specs.UnderWay.{Able, Proceeds, beginOf}
 use Rattle.runs.proofs.Entries.{unpacked-first}

@@ -4,8 +4,6 @@ use mathlib.Core.Path.{_≡_}
 use mathlib.Core.List.{List}
 use lib.ListN.{length}
 use Rattle.word.specs.Word.{if_then_else_}
-use Rattle.paging.specs.declared.Entry.{Entry}
-use Rattle.mmu.specs.Translates.{Kept, translator}
 use Rattle.mmu.specs.Good.{Good}
 use Rattle.rules.specs.declared.Cpu.{Cpu}
 use Rattle.rules.specs.declared.Key.{Key}
@@ -14,8 +12,6 @@ use Rattle.rules.specs.declared.Stop.{Stop}
 use Rattle.rules.specs.declared.Stop.the-variants.{Running}
 use Rattle.rules.specs.Record.{isRunning}
 use Rattle.rules.specs.Clock.{nextOf}
-use Rattle.rules.specs.Step.{State}
-use Rattle.rules.specs.Run.{stepsOf, lastOf}
 use Rattle.contracts.specs.Contract.{stateOf, endOf}
 use Rattle.machine.specs.declared.Advanced.{Advanced}
 

@@ -4,7 +4,6 @@ use mathlib.Core.Path.{_≡_}
 use mathlib.Core.Bool.{Bool, true}
 use mathlib.Core.List.{List}
 use lib.ListN.{length}
-use Rattle.paging.specs.declared.Entry.{Entry}
 use Rattle.paging.specs.Buffer.{bufferOk}
 use Rattle.mmu.specs.Translates.{Kept}
 use Rattle.walk.specs.Directory.{Directory}

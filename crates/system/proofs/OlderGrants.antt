@@ -1,10 +1,10 @@
 -- A step's tree after its instruction stores only through the writes that it was granted itself: what was granted before does not count.
 -- Assumes nothing.
-use Prim.Native.Nat.{ℕ, _+_, _%_}
-use mathlib.Core.Bool.{Bool, true, false, not}
+use Prim.Native.Nat.{ℕ}
+use mathlib.Core.Bool.{Bool, true, false}
 use mathlib.Core.List.{List, [], _∷_, _++_}
-use mathlib.Core.Path.{_≡_, refl, sym, ap, _∙_}
-use lib.Dec.{eqb, ltb}
+use mathlib.Core.Path.{_≡_, refl}
+use lib.Dec.{ltb}
 use Rattle.word.specs.Word.{if_then_else_, sum, difference}
 use Rattle.decode.specs.declared.SysOp.{SysOp}
 use Rattle.decode.specs.declared.SysOp.the-variants.{Halt, Cli, Sti, Rti, Bin, Bout, Ssp, Ivec, Pdir, Spag, Time, Lvad, Lusp, Susp, Msiz, Idle}
@@ -14,18 +14,17 @@ use Rattle.paging.specs.declared.Answer.{Answer}
 use Rattle.paging.specs.declared.Answer.the-variants.{At, Denied}
 use Rattle.paging.specs.declared.Entry.{Entry}
 use Rattle.paging.specs.declared.Fault.{Fault}
-use Rattle.paging.specs.declared.Space.{Space}
-use Rattle.paging.specs.TrapCode.{FMEM, FPRIV}
+use Rattle.paging.specs.TrapCode.{FPRIV}
 use Rattle.paging.specs.Walk.{isWrite}
 use Rattle.paging.specs.Event.{Event}
-use Rattle.paging.specs.Translate.{Outcome, outcome}
+use Rattle.paging.specs.Translate.{Outcome}
 use Rattle.mmu.specs.Translates.{Kept, translator}
 use Rattle.rules.specs.declared.Cpu.{Cpu}
 use Rattle.rules.specs.declared.Stop.the-variants.{Masked, NoFrame}
 use Rattle.rules.specs.Record.{withStop, withVadr}
-use Rattle.rules.specs.Tree.{Reply, got, denied, access, slots, Tree, ask, done, Grant, Ended, after, Replied, replyTo, slot, requested, firstSlot, secondSlot, answered, storeAll, interpret}
-use Rattle.rules.specs.Trap.{Effect, none, Final, final, ended, nextPc, codeOf, framed, kernelSp, deliverTree, trapTree, faultTree}
-use Rattle.rules.specs.System.{returned, orFault, rtiTree, boutTree, pdirTree, spagTree, privilegedTree, systemTree}
+use Rattle.rules.specs.Tree.{Reply, got, denied, access, Tree, ask, Grant, Ended, Replied, replyTo, slot, requested, firstSlot, secondSlot, answered, storeAll, interpret}
+use Rattle.rules.specs.Trap.{Effect, none, Final, final, nextPc, framed, kernelSp, deliverTree, trapTree, faultTree}
+use Rattle.rules.specs.System.{returned, orFault, rtiTree, boutTree, pdirTree, privilegedTree, systemTree}
 use Rattle.rules.specs.Step.{State, finished}
 use Rattle.system.specs.Moved.{movedOn}
 

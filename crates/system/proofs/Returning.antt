@@ -2,7 +2,7 @@
 use Prim.Native.Nat.{ℕ}
 use mathlib.Core.Bool.{Bool, true, false}
 use mathlib.Core.List.{List}
-use mathlib.Core.Path.{_≡_, refl, sym, subst, _∙_}
+use mathlib.Core.Path.{_≡_, refl, subst, _∙_}
 use Rattle.word.specs.Word.{sum}
 use Rattle.memory.specs.Memory.{loadN}
 use Rattle.paging.specs.declared.Access.the-variants.{Read}

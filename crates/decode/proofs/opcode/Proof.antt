@@ -1,5 +1,5 @@
 -- Every arm of the match is the row of its opcode byte; the last arm and the bytes without an arm are those without a row.
-use mathlib.Core.Path.{_≡_, refl, sym}
+use mathlib.Core.Path.{refl, sym}
 use mathlib.Core.List.{List, [], _∷_}
 use Prim.Native.Nat.{ℕ}
 use Rattle.decode.specs.declared.Instr.the-variants.{Illegal}

@@ -1,6 +1,6 @@
 -- `entry_calls::single_step` is safe and ends: a walk of its MIR, by hand. Keys and record are copied into locals, which are lent for the call; memory and console
 -- go to `single_step` at their own lifetimes, shares and names. Assumes nothing.
-use mathlib.Core.Path.{_≡_, refl, ap, subst}
+use mathlib.Core.Path.{_≡_, refl, ap}
 use Prim.Native.Nat.{ℕ, _<_, _≤_, _^_}
 use mathlib.Core.List.{[], _∷_, List}
 use lib.ListN.{length}

@@ -1,8 +1,8 @@
 -- `refusals::refusal` meets its contract. Assumes nothing.
 use borrow.Author.Tests.{not-true, not-false}
 use Rattle.refusals.proofs.Order.{bad-size, bad-registers, bad-buffer, bad-keys, bad-console, bad-budget, accepted}
-use borrow.Author.Tests.{not-true, not-false, le-leb, lt-leb}
-use mathlib.Core.Path.{_≡_, sym, _∙_}
+use borrow.Author.Tests.{not-true, not-false}
+use mathlib.Core.Path.{sym, _∙_}
 use borrow.Author.Needs.{needs}
 use Rattle.refusals.proofs.refusal.Statement.{statement}
 use Rattle.refusals.proofs.refusal.Tie as tie

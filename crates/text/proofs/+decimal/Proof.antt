@@ -1,7 +1,6 @@
 -- The proof of the cycle of calls {decimal}. The measure is the number, which falls to its quotient by ten. Assumes nothing.
 use Prim.Native.Nat.{ℕ, _<_}
 use mathlib.Core.Path.{_∙_}
-use borrow.Author.Needs.{needs}
 use native.Mathlib.Omega.{arith}
 use Rattle.text.specs.Laws.{decimal-digit, decimal-more, quotient-short, written-then, written-as}
 use borrow.Fn.Kinds.{In}

@@ -1,7 +1,6 @@
 -- `text::put` meets its contract. The loop: the first i bytes stand in the line from `at` on. Assumes nothing.
-use Prim.Native.Nat.{_-_, _≤_}
+use Prim.Native.Nat.{_-_}
 use borrow.Author.Needs.{needs}
-use native.Mathlib.Omega.{arith}
 use lib.ListN.{length}
 use Rattle.text.proofs.Copy.{Copied, copied-start, copied-on, copied-end}
 use Rattle.text.proofs.put.Statement.{statement}
