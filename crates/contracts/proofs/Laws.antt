@@ -28,7 +28,7 @@ use Rattle.contracts.proofs.Trees.{asked}
 -- ---- ends
 
 -- no value, no store
-store-none : (gs : List Grant) (m : List ℕ) → storeAll gs [] m ≡ m
+pub store-none : (gs : List Grant) (m : List ℕ) → storeAll gs [] m ≡ m
 unfolding storeAll
 store-none [] m = refl
 store-none (g ∷ gs) m = refl

@@ -13,7 +13,8 @@ use Rattle.decode.specs.declared.Reg.the-variants as reg
 use Rattle.decode.specs.declared.Base.the-variants as base
 use Rattle.decode.specs.declared.Format.the-variants.{Uint, Short, Ushort, Char, Uchar}
 use Rattle.decode.specs.declared.BlockOp.the-variants.{Mcpy, Mcmp, Mchr, Mset}
-use Rattle.decode.specs.declared.SysOp.the-variants.{Halt, Cli, Sti, Rti, Bin, Bout, Ssp, Ivec, Pdir, Spag, Time, Lvad, Lusp, Susp, Msiz, Idle}
+use Rattle.decode.specs.declared.PlainOp.the-variants.{Halt, Cli, Sti, Bin, Ssp, Ivec, Time, Lvad, Lusp, Susp, Msiz, Idle}
+use Rattle.decode.specs.declared.SysOp.the-variants.{Plain, Rti, Bout, Pdir, Spag}
 use Rattle.decode.specs.declared.Instr.{Instr}
 use Rattle.decode.specs.declared.Instr.the-variants.{Illegal, Nop, Trap, Cyc, Jsra, Lba, Lca, Ent, Lev, Jmp, Jmpi, Jsr, Lea, Leag, Block, Load, Store, LoadImm, LoadHigh, Alu, Compare, Bz, Bnz, Branch, Push, Pshi, Pop, Sys}
 
@@ -35,7 +36,7 @@ find op (r ∷ t) = let rest = find op t in if eqb op (r .code) then r .means el
 -- the rows, by opcode byte; imm is the word's upper 24 bits with their sign, field the same bits without
 unfoldable pub table : ℕ → ℕ → List Row
 table imm field =
-    0x00 is Sys Halt ∷  -- HALT
+    0x00 is Sys (Plain Halt) ∷  -- HALT
     0x01 is Ent imm ∷  -- ENT
     0x02 is Lev imm ∷  -- LEV
     0x03 is Jmp imm ∷  -- JMP
@@ -146,32 +147,32 @@ table imm field =
     0x8d is Branch Ltu imm ∷  -- BLTU
     0x8f is Branch Ge imm ∷  -- BGE
     0x90 is Branch Geu imm ∷  -- BGEU
-    0x96 is Sys Cli ∷  -- CLI
-    0x97 is Sys Sti ∷  -- STI
+    0x96 is Sys (Plain Cli) ∷  -- CLI
+    0x97 is Sys (Plain Sti) ∷  -- STI
     0x98 is Sys Rti ∷  -- RTI
-    0x99 is Sys Bin ∷  -- BIN
+    0x99 is Sys (Plain Bin) ∷  -- BIN
     0x9a is Sys Bout ∷  -- BOUT
     0x9b is Nop ∷  -- NOP
-    0x9c is Sys Ssp ∷  -- SSP
+    0x9c is Sys (Plain Ssp) ∷  -- SSP
     0x9d is Push reg.A ∷  -- PSHA
     0x9e is Pshi imm ∷  -- PSHI
     0xa0 is Push reg.B ∷  -- PSHB
     0xa1 is Pop reg.B ∷  -- POPB
     0xa3 is Pop reg.A ∷  -- POPA
-    0xa4 is Sys Ivec ∷  -- IVEC
+    0xa4 is Sys (Plain Ivec) ∷  -- IVEC
     0xa5 is Sys Pdir ∷  -- PDIR
     0xa6 is Sys Spag ∷  -- SPAG
-    0xa7 is Sys (Time field) ∷  -- TIME
-    0xa8 is Sys Lvad ∷  -- LVAD
+    0xa7 is Sys (Plain (Time field)) ∷  -- TIME
+    0xa8 is Sys (Plain Lvad) ∷  -- LVAD
     0xa9 is Trap ∷  -- TRAP
-    0xaa is Sys Lusp ∷  -- LUSP
-    0xab is Sys Susp ∷  -- SUSP
+    0xaa is Sys (Plain Lusp) ∷  -- LUSP
+    0xab is Sys (Plain Susp) ∷  -- SUSP
     0xac is Load reg.C base.Sp Uint imm ∷  -- LCL
     0xad is Lca ∷  -- LCA
     0xae is Push reg.C ∷  -- PSHC
     0xaf is Pop reg.C ∷  -- POPC
-    0xb0 is Sys Msiz ∷  -- MSIZ
-    0xd1 is Sys Idle ∷  -- IDLE
+    0xb0 is Sys (Plain Msiz) ∷  -- MSIZ
+    0xd1 is Sys (Plain Idle) ∷  -- IDLE
     []
 
 -- the instruction of an opcode byte

@@ -70,24 +70,29 @@ pub enum BlockOp {
     Mset,
 }
 
-// The privileged instructions.
-pub enum SysOp {
+// The privileged instructions that change the record and nothing else.
+pub enum PlainOp {
     Halt,
     Cli,
     Sti,
-    Rti,
     Bin,
-    Bout,
     Ssp,
     Ivec,
-    Pdir,
-    Spag,
     Time(u32),
     Lvad,
     Lusp,
     Susp,
     Msiz,
     Idle,
+}
+
+// The privileged instructions.
+pub enum SysOp {
+    Plain(PlainOp),
+    Rti,
+    Bout,
+    Pdir,
+    Spag,
 }
 
 // An instruction with its operand: imm with its sign; for LoadHigh and Time the unsigned field.
@@ -127,7 +132,7 @@ pub fn opcode(op: u8, imm: u32, field: u32) -> Instr
     ensures { λ r. ⌜ r ≡ opcodeOf op imm field ⌝ }
 {
     match op {
-        0x00 => Instr::Sys(SysOp::Halt),
+        0x00 => Instr::Sys(SysOp::Plain(PlainOp::Halt)),
         0x01 => Instr::Ent(imm),
         0x02 => Instr::Lev(imm),
         0x03 => Instr::Jmp(imm),
@@ -238,32 +243,32 @@ pub fn opcode(op: u8, imm: u32, field: u32) -> Instr
         0x8d => Instr::Branch(Test::Ltu, imm),
         0x8f => Instr::Branch(Test::Ge, imm),
         0x90 => Instr::Branch(Test::Geu, imm),
-        0x96 => Instr::Sys(SysOp::Cli),
-        0x97 => Instr::Sys(SysOp::Sti),
+        0x96 => Instr::Sys(SysOp::Plain(PlainOp::Cli)),
+        0x97 => Instr::Sys(SysOp::Plain(PlainOp::Sti)),
         0x98 => Instr::Sys(SysOp::Rti),
-        0x99 => Instr::Sys(SysOp::Bin),
+        0x99 => Instr::Sys(SysOp::Plain(PlainOp::Bin)),
         0x9a => Instr::Sys(SysOp::Bout),
         0x9b => Instr::Nop,
-        0x9c => Instr::Sys(SysOp::Ssp),
+        0x9c => Instr::Sys(SysOp::Plain(PlainOp::Ssp)),
         0x9d => Instr::Push(Reg::A),
         0x9e => Instr::Pshi(imm),
         0xa0 => Instr::Push(Reg::B),
         0xa1 => Instr::Pop(Reg::B),
         0xa3 => Instr::Pop(Reg::A),
-        0xa4 => Instr::Sys(SysOp::Ivec),
+        0xa4 => Instr::Sys(SysOp::Plain(PlainOp::Ivec)),
         0xa5 => Instr::Sys(SysOp::Pdir),
         0xa6 => Instr::Sys(SysOp::Spag),
-        0xa7 => Instr::Sys(SysOp::Time(field)),
-        0xa8 => Instr::Sys(SysOp::Lvad),
+        0xa7 => Instr::Sys(SysOp::Plain(PlainOp::Time(field))),
+        0xa8 => Instr::Sys(SysOp::Plain(PlainOp::Lvad)),
         0xa9 => Instr::Trap,
-        0xaa => Instr::Sys(SysOp::Lusp),
-        0xab => Instr::Sys(SysOp::Susp),
+        0xaa => Instr::Sys(SysOp::Plain(PlainOp::Lusp)),
+        0xab => Instr::Sys(SysOp::Plain(PlainOp::Susp)),
         0xac => Instr::Load(Reg::C, Base::Sp, Format::Uint, imm),
         0xad => Instr::Lca,
         0xae => Instr::Push(Reg::C),
         0xaf => Instr::Pop(Reg::C),
-        0xb0 => Instr::Sys(SysOp::Msiz),
-        0xd1 => Instr::Sys(SysOp::Idle),
+        0xb0 => Instr::Sys(SysOp::Plain(PlainOp::Msiz)),
+        0xd1 => Instr::Sys(SysOp::Plain(PlainOp::Idle)),
         // The bytes without a row in the table.
         0x13..=0x14
         | 0x1a..=0x1b

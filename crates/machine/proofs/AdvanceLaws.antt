@@ -1,4 +1,4 @@
--- Document 01, "Numbers returned": a run goes on by a step, by all its quiet steps, or up to an instruction that does not end well. Assumes nothing.
+-- Document 01, "Numbers returned": a run goes on by a step, by all its quiet steps, or up to an instruction that does not end well.
 use Prim.Native.Nat.{ℕ, _+_, _-_, _≤_, _<_}
 use native.Mathlib.Omega.{arith}
 use mathlib.Core.List.{List}

@@ -1,4 +1,4 @@
--- Document 01, "One step": instructions one after another: the loop starts, goes on, ends early or at its limit. Assumes nothing.
+-- Document 01, "One step": instructions one after another: the loop starts, goes on, ends early or at its limit.
 use Prim.Native.Nat.{ℕ, _+_, _-_, _≤_, _<_}
 use native.Mathlib.Omega.{arith}
 use mathlib.Core.Bool.{Bool}

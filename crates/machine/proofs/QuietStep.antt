@@ -1,4 +1,4 @@
--- Document 01, "One step": a step in which the clock only counts is its instruction and the rest; and a run goes on by a step. Assumes nothing.
+-- Document 01, "One step": a step in which the clock only counts is its instruction and the rest; and a run goes on by a step.
 use Prim.Native.Nat.{ℕ, suc, _+_, _≤_, _<_}
 use mathlib.Core.Bool.{Bool}
 use mathlib.Core.Option.{Option, none}

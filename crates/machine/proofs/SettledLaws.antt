@@ -1,4 +1,4 @@
--- Document 01, "One step", rule 5: the state after the rest of a step, from how its instruction ended. Assumes nothing.
+-- Document 01, "One step", rule 5: the state after the rest of a step, from how its instruction ended.
 use Prim.Native.Nat.{ℕ}
 use mathlib.Core.List.{List, []}
 use mathlib.Core.Path.{_≡_, refl, ap}

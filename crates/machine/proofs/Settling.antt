@@ -1,4 +1,4 @@
--- Document 01, "One step": the rest of a step, by how its instruction ended in the code. Assumes nothing.
+-- Document 01, "One step": the rest of a step, by how its instruction ended in the code.
 use Prim.Native.Nat.{ℕ}
 use mathlib.Core.List.{List}
 use mathlib.Core.Path.{_≡_, sym, subst}

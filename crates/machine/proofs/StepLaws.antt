@@ -1,4 +1,4 @@
--- Document 01, "One step", rules 4 and 5: the three ends of a step. Assumes nothing.
+-- Document 01, "One step", rules 4 and 5: the three ends of a step.
 use Prim.Native.Nat.{ℕ, _+_}
 use mathlib.Core.Bool.{Bool, true, false}
 use mathlib.Core.Option.{Option, none, some}

@@ -1,4 +1,4 @@
--- Document 01, "Traps": "The pc stored is .. the fetch address for interrupts", by computing: 32 bytes of memory, sp 32, pc 4, in kernel mode. Assumes nothing.
+-- Document 01, "Traps": "The pc stored is .. the fetch address for interrupts", by computing: 32 bytes of memory, sp 32, pc 4, in kernel mode.
 use Prim.Native.Nat.{ℕ}
 use mathlib.Core.Path.{_≡_, refl}
 use mathlib.Core.Bool.{true}

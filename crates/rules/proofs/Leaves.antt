@@ -1,5 +1,5 @@
 -- What holds of every leaf of a tree, whatever the replies.
-use mathlib.Core.Path.{_≡_, refl}
+
 use mathlib.Core.Bool.{Bool, true, false}
 use mathlib.Core.List.{List}
 use Prim.Native.Nat.{ℕ}
@@ -13,13 +13,12 @@ pub data Leaves {A : Type 0} (P : A → Type 0) : Tree A → Type 0 where
   at-leaf : {a : A} → P a → Leaves P (done a)
   at-ask : {q : Ask} {k : Reply → Tree A} → ((r : Reply) → Leaves P (k r)) → Leaves P (ask q k)
 
--- one tree after another: only the second's leaves are left
-pub leaves-bind : {A B : Type 0} {P : B → Type 0} (t : Tree A) (f : A → Tree B) → ((a : A) → Leaves P (f a)) → Leaves P (bind t f)
-unfolding bind
-leaves-bind (ask q k) f h = at-ask (λ r. leaves-bind (k r) f h)
-leaves-bind (done a) f h = h a
+-- what holds of anything holds of every leaf
+pub leaves-all : {A : Type 0} (t : Tree A) → Leaves (λ a. Unit {0}) t
+leaves-all (ask q k) = at-ask (λ r. leaves-all (k r))
+leaves-all (done a) = at-leaf tt
 
--- the same, where Q holds of every leaf of the first
+-- one tree after another, where Q holds of every leaf of the first
 pub leaves-then : {A B : Type 0} {Q : A → Type 0} {P : B → Type 0} (f : A → Tree B) {t : Tree A} → Leaves Q t → ((a : A) → Q a → Leaves P (f a)) → Leaves P (bind t f)
 unfolding bind
 leaves-then f (at-leaf {a = a} q) h = h a q
@@ -29,11 +28,6 @@ leaves-then f (at-ask l) h = at-ask (λ r. leaves-then f (l r) h)
 pub leaves-if : {A : Type 0} {P : A → Type 0} (b : Bool) {x y : Tree A} → Leaves P x → Leaves P y → Leaves P (if b then x else y)
 leaves-if true l r = l
 leaves-if false l r = r
-
--- a choice whose test tells something
-pub leaves-test : {A : Type 0} {P : A → Type 0} (b : Bool) {x y : Tree A} → (b ≡ true → Leaves P x) → Leaves P y → Leaves P (if b then x else y)
-leaves-test true l r = l refl
-leaves-test false l r = r
 
 -- the leaf at which a machine ends
 pub leaf-at : {A B : Type 0} {P : A → Type 0} (tr : Translator B) (s : Space) (user : Bool) {t : Tree A} → Leaves P t → (m : List ℕ) (b : B) (gs : List Grant)

@@ -1,5 +1,7 @@
 pub mod RecordNumbers
 pub mod Leaves
+pub mod LowBits
+pub mod StepTree
 pub mod StepSpace
 pub mod ValidStep
 pub mod Simulation
@@ -10,6 +12,3 @@ pub mod AcceptedRun
 mod InterruptFrame
 pub mod NoSteps
 pub mod StepCount
-pub mod AlignedInstruction
-pub mod AcceptableStep
-pub mod AcceptableRun

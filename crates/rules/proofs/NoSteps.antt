@@ -1,5 +1,5 @@
 -- Document 01, "Numbers returned": runs that make no step: "A refused run returns the record given and zero steps; memory and console keep their bytes"; one that
--- "starts stopped, or has budget 0, is accepted with zero steps and no change". Of each machine. Assumes nothing.
+-- "starts stopped, or has budget 0, is accepted with zero steps and no change". Of each machine.
 use Prim.Native.Nat.{ℕ, zero, suc}
 use mathlib.Core.Path.{_≡_, refl}
 use mathlib.Core.Bool.{Bool, true, false}

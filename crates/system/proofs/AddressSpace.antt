@@ -1,4 +1,4 @@
--- Document 01, "Opcodes": PDIR and SPAG end as their trees say, with the page buffer emptied. Assumes nothing.
+-- Document 01, "Opcodes": PDIR and SPAG end as their trees say, with the page buffer emptied.
 use Prim.Native.Nat.{ℕ, _≤_, _<_, _%_}
 use native.Mathlib.Omega.{arith}
 use mathlib.Core.Bool.{not}

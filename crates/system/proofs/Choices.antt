@@ -1,4 +1,4 @@
--- Trees that depend on a test, on the address of the next instruction, or on the record with pc moved on. Assumes nothing.
+-- Trees that depend on a test, on the address of the next instruction, or on the record with pc moved on.
 use Prim.Native.Nat.{ℕ}
 use mathlib.Core.Bool.{Bool, true, false}
 use mathlib.Core.List.{List}

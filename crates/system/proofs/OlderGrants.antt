@@ -1,37 +1,25 @@
 -- A step's tree after its instruction stores only through the writes that it was granted itself: what was granted before does not count.
--- Assumes nothing.
 use Prim.Native.Nat.{ℕ}
-use mathlib.Core.Bool.{Bool, true, false}
-use mathlib.Core.List.{List, [], _∷_, _++_}
-use mathlib.Core.Path.{_≡_, refl}
-use lib.Dec.{ltb}
-use Rattle.word.specs.Word.{if_then_else_, sum, difference}
-use Rattle.decode.specs.declared.SysOp.{SysOp}
-use Rattle.decode.specs.declared.SysOp.the-variants.{Halt, Cli, Sti, Rti, Bin, Bout, Ssp, Ivec, Pdir, Spag, Time, Lvad, Lusp, Susp, Msiz, Idle}
+use mathlib.Core.List.{List, [], _++_}
+use mathlib.Core.Path.{_≡_}
+use Rattle.word.specs.Word.{difference}
 use Rattle.memory.specs.Memory.{loadN}
 use Rattle.paging.specs.declared.Access.the-variants.{Read}
 use Rattle.paging.specs.declared.Answer.{Answer}
 use Rattle.paging.specs.declared.Answer.the-variants.{At, Denied}
 use Rattle.paging.specs.declared.Entry.{Entry}
-use Rattle.paging.specs.declared.Fault.{Fault}
-use Rattle.paging.specs.TrapCode.{FPRIV}
 use Rattle.paging.specs.Walk.{isWrite}
 use Rattle.paging.specs.Event.{Event}
 use Rattle.paging.specs.Translate.{Outcome}
 use Rattle.mmu.specs.Translates.{Kept, translator}
 use Rattle.rules.specs.declared.Cpu.{Cpu}
-use Rattle.rules.specs.declared.Stop.the-variants.{Masked, NoFrame}
-use Rattle.rules.specs.Record.{withStop, withVadr}
+use Rattle.rules.specs.declared.Stop.the-variants.{NoFrame}
+use Rattle.rules.specs.Record.{withStop}
 use Rattle.rules.specs.Tree.{Reply, got, denied, access, Tree, ask, Grant, Ended, Replied, replyTo, slot, requested, firstSlot, secondSlot, answered, storeAll, interpret}
-use Rattle.rules.specs.Trap.{Effect, none, Final, final, nextPc, framed, kernelSp, deliverTree, trapTree, faultTree}
-use Rattle.rules.specs.System.{returned, orFault, rtiTree, boutTree, pdirTree, privilegedTree, systemTree}
+use Rattle.rules.specs.Trap.{Effect, none, Final, final, framed, kernelSp, deliverTree}
 use Rattle.rules.specs.Step.{State, finished}
-use Rattle.system.specs.Moved.{movedOn}
-
-store-none : (gs : List Grant) (m : List ℕ) → storeAll gs [] m ≡ m
-unfolding storeAll
-store-none [] m = refl
-store-none (g ∷ gs) m = refl
+use Rattle.rules.proofs.StepTree.{Shapes}
+use Rattle.contracts.proofs.Laws.{store-none}
 
 module _ (k : Cpu) (con : List ℕ) where
   -- where a tree's end leaves the machine
@@ -45,10 +33,6 @@ module _ (k : Cpu) (con : List ℕ) where
   -- the writes granted before the tree do not count
   pub record Fresh (t : Tree Final) : Type 0 where
     pub fresh : (m : List ℕ) (es : List Entry) (gs : List Grant) → run t m es gs ≡ run t m es []
-
-  fresh-if : (b : Bool) {t u : Tree Final} → Fresh t → Fresh u → Fresh (if b then t else u)
-  fresh-if true h i = h
-  fresh-if false h i = i
 
   -- a leaf without values
   fresh-final : (c : Cpu) (e : Effect) → Fresh (final c [] e)
@@ -98,44 +82,20 @@ module _ (k : Cpu) (con : List ℕ) where
           first-slot (difference (kernelSp c) 16) o (o .answer) gs;
     }
 
-    pub fresh-trap : Fresh (trapTree c code pc)
-    unfolding trapTree
-    fresh-trap = fresh-if (c .system .iena) fresh-deliver (fresh-final (withStop Masked c) none)
-
-  pub fresh-fault : (c : Cpu) (f : Fault) (pc : ℕ) → Fresh (faultTree c f pc)
-  unfolding faultTree
-  fresh-fault c f pc = fresh-trap (withVadr (f .address) c) (f .code) pc
-
-  -- ---- the privileged instructions
-  or-fault : (c : Cpu) (f : ℕ → Tree Final) → ((v : ℕ) → Fresh (f v)) → (r : Reply) → Fresh (orFault c f r)
-  or-fault c f h (got v) = h v
-  or-fault c f h (denied x) = fresh-fault c x (nextPc c)
-
-  fresh-rti : (c : Cpu) → Fresh (rtiTree c)
-  unfolding rtiTree
-  fresh-rti c =
-      fresh-read 4 (c .regs .sp) _ (or-fault c _ (λ code.
-      fresh-read 4 (sum (c .regs .sp) 8) _ (or-fault c _ (λ pc. fresh-final (returned c code pc) none))))
-
-  fresh-privileged : (size consoleSize : ℕ) (op : SysOp) (c : Cpu) → Fresh (privilegedTree size consoleSize op c (movedOn c))
-  unfolding privilegedTree boutTree pdirTree
-  fresh-privileged size consoleSize Halt c = fresh-final _ none
-  fresh-privileged size consoleSize Cli c = fresh-final _ none
-  fresh-privileged size consoleSize Sti c = fresh-final _ none
-  fresh-privileged size consoleSize Rti c = fresh-rti c
-  fresh-privileged size consoleSize Bin c = fresh-final _ none
-  fresh-privileged size consoleSize Bout c = fresh-if (ltb (c .written) consoleSize) (fresh-final _ _) (fresh-final _ none)
-  fresh-privileged size consoleSize Ssp c = fresh-final _ none
-  fresh-privileged size consoleSize Ivec c = fresh-final _ none
-  fresh-privileged size consoleSize Pdir c = fresh-if (ltb (c .regs .a) size) (fresh-final _ _) (fresh-fault c _ (nextPc c))
-  fresh-privileged size consoleSize Spag c = fresh-final _ _
-  fresh-privileged size consoleSize (Time i) c = fresh-final _ none
-  fresh-privileged size consoleSize Lvad c = fresh-final _ none
-  fresh-privileged size consoleSize Lusp c = fresh-final _ none
-  fresh-privileged size consoleSize Susp c = fresh-final _ none
-  fresh-privileged size consoleSize Msiz c = fresh-final _ none
-  fresh-privileged size consoleSize Idle c = fresh-final _ none
-
-  pub fresh-system : (size consoleSize : ℕ) (op : SysOp) (c : Cpu) → Fresh (systemTree size consoleSize op c)
-  unfolding systemTree
-  fresh-system size consoleSize op c = fresh-if (c .system .user) (fresh-trap c FPRIV (nextPc c)) (fresh-privileged size consoleSize op c)
+  -- every shape of tree
+  pub fresh-shapes : (size consoleSize : ℕ) → Shapes size consoleSize Fresh (λ c. Unit {0})
+  fresh-shapes size consoleSize = record {
+    on-fault = λ c address g. tt;
+    on-moved = λ c g. tt;
+    on-awake = λ c g. tt;
+    waits = λ c g. fresh-final _ none;
+    masks = λ c g. fresh-final _ none;
+    computes = λ c op g. fresh-final _ none;
+    returns = λ c code pc g. fresh-final _ none;
+    fills = λ c g. fresh-final _ none;
+    prints = λ c g e. fresh-final _ _;
+    directs = λ c g e. fresh-final _ _;
+    pages = λ c g. fresh-final _ _;
+    delivers = λ c code pc g. fresh-deliver c code pc;
+    reads = λ h. fresh-read 4 _ _ h;
+  }

@@ -1,23 +1,25 @@
--- Document 01, "Opcodes": BOUT, TIME, and a privileged instruction in user mode. Assumes nothing.
+-- Document 01, "Opcodes": BOUT, a privileged instruction that changes the record alone, and any of them in user mode.
 use Prim.Native.Nat.{ℕ, _+_, _%_, _≤_, _<_}
 use mathlib.Core.Bool.{Bool, true, false}
 use mathlib.Core.List.{List}
-use mathlib.Core.Path.{_≡_, sym, subst}
+use mathlib.Core.Path.{_≡_, refl, sym, subst, _∙_}
 use lib.ListN.{length, set}
 use lib.Dec.{eqb}
 use borrow.Author.Tests.{lt-ltb, le-ltb}
 use Rattle.word.specs.Word.{if_then_else_}
 use Rattle.decode.specs.declared.SysOp.{SysOp}
-use Rattle.decode.specs.declared.SysOp.the-variants.{Time}
+use Rattle.decode.specs.declared.PlainOp.{PlainOp}
+use Rattle.decode.specs.declared.PlainOp.the-variants.{Halt, Cli, Sti, Bin, Ssp, Ivec, Time, Lvad, Lusp, Susp, Msiz, Idle}
+use Rattle.decode.specs.declared.SysOp.the-variants.{Plain}
 use Rattle.paging.specs.TrapCode.{FPRIV}
 use Rattle.mmu.specs.Good.{Good}
 use Rattle.rules.specs.declared.Cpu.{Cpu}
 use Rattle.rules.specs.Record.{putA, withWritten, withClock, withTimeout}
-use Rattle.rules.specs.Trap.{ended, nextPc, trapTree}
-use Rattle.rules.specs.System.{boutTree, privilegedTree, systemTree}
+use Rattle.rules.specs.Trap.{none, nextPc, trapTree}
+use Rattle.rules.specs.System.{computed, boutTree, privilegedTree, systemTree}
 use Rattle.rules.specs.Step.{spaceAfter}
 use Rattle.contracts.specs.Contract.{Finishes}
-use Rattle.contracts.proofs.Steps.{finishes-ended, finishes-printed}
+use Rattle.contracts.proofs.Steps.{recordAfter, finishes-ended, finishes-printed}
 use Rattle.system.specs.Moved.{movedOn}
 use Rattle.system.proofs.Choices.{finishes-then, finishes-else, at-next}
 
@@ -42,18 +44,30 @@ pub privileged-at : (size consoleSize : ℕ) (c : Cpu) (op : SysOp) {op′ : Sys
 privileged-at size consoleSize c op {op′} {m} {con} {l} {x} {m′} {con′} {l′} e h =
     subst (λ z. Finishes (privilegedTree size consoleSize z c (movedOn c)) c m con l x m′ con′ l′) (sym e) h
 
--- ---- "TIME with imm not 0 does nothing"
+-- those that change the record alone leave step count and address space
+computed-kept : (size : ℕ) (op : PlainOp) (c : Cpu) → recordAfter c none (computed size op c) ≡ computed size op c
+unfolding spaceAfter
+computed-kept size Halt c = refl
+computed-kept size Cli c = refl
+computed-kept size Sti c = refl
+computed-kept size Bin c = refl
+computed-kept size Ssp c = refl
+computed-kept size Ivec c = refl
+computed-kept size (Time i) c = go (eqb i 0)
+  where
+    go : (b : Bool) → let x = if b then withClock (withTimeout (c .regs .a) (c .clock)) c else c in recordAfter c none x ≡ x
+    go true = unfold spaceAfter in refl
+    go false = unfold spaceAfter in refl
+computed-kept size Lvad c = refl
+computed-kept size Lusp c = refl
+computed-kept size Susp c = refl
+computed-kept size Msiz c = refl
+computed-kept size Idle c = refl
 
-module _ (size consoleSize : ℕ) (c : Cpu) {m con l : List ℕ} (g : Good (length m) (c .space .pdir) l) {n x : Cpu} where
-  pub time-ends : (imm : ℕ) → n ≡ movedOn c → x ≡ (if eqb imm 0 then withClock (withTimeout (n .regs .a) (n .clock)) n else n)
-      → Finishes (privilegedTree size consoleSize (Time imm) c (movedOn c)) c m con l x m con l
-  unfolding privilegedTree spaceAfter
-  time-ends imm e f = go (eqb imm 0) (rw e at f)
-    where
-      go : (b : Bool) → x ≡ (if b then withClock (withTimeout (c .regs .a) (c .clock)) (movedOn c) else movedOn c)
-          → Finishes (ended (if b then withClock (withTimeout (c .regs .a) (c .clock)) (movedOn c) else movedOn c)) c m con l x m con l
-      go true q = unfold spaceAfter in finishes-ended q g
-      go false q = unfold spaceAfter in finishes-ended q g
+pub plain-ends : (size consoleSize : ℕ) (c : Cpu) (op : PlainOp) {m con l : List ℕ} → Good (length m) (c .space .pdir) l → {n x : Cpu} → n ≡ movedOn c → x ≡ computed size op n
+    → Finishes (privilegedTree size consoleSize (Plain op) c (movedOn c)) c m con l x m con l
+unfolding privilegedTree spaceAfter
+plain-ends size consoleSize c op g e f = finishes-ended (rw e at f ∙ sym (computed-kept size op (movedOn c))) g
 
 -- ---- "privilege"
 

@@ -1,4 +1,4 @@
--- Document 01, "Traps": RTI ends as its tree says. One law for each `return`. Assumes nothing.
+-- Document 01, "Traps": RTI ends as its tree says. One law for each `return`.
 use Prim.Native.Nat.{ℕ}
 use mathlib.Core.Bool.{Bool, true, false}
 use mathlib.Core.List.{List}

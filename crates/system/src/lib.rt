@@ -9,7 +9,6 @@ ghost use Rattle.contracts.specs.Contract.{Finishes};
 ghost use Rattle.system.specs.Moved.{movedOn};
 use decode::SysOp;
 use rules::Cpu;
-use rules::Stop;
 
 mod pdir;
 mod plain;
@@ -54,22 +53,11 @@ fn privileged(
 {
     let n = moved(c);
     match op {
-        SysOp::Halt => trap::stopped(n, Stop::Halted),
-        SysOp::Cli => plain::cli(n),
-        SysOp::Sti => plain::sti(n),
+        SysOp::Plain(plain) => plain::computed(n, plain, mem.len() as u32),
         SysOp::Rti => rti::rti(c, mem, tlb, hint),
-        SysOp::Bin => plain::bin(n),
         SysOp::Bout => bout(n, console),
-        SysOp::Ssp => plain::ssp(n),
-        SysOp::Ivec => plain::ivec(n),
         SysOp::Pdir => pdir::pdir(c, n, mem, tlb, hint),
         SysOp::Spag => spag::spag(n, tlb),
-        SysOp::Time(imm) => plain::time(n, imm),
-        SysOp::Lvad => plain::set_a(n, c.vadr),
-        SysOp::Lusp => plain::set_a(n, c.system.usp),
-        SysOp::Susp => plain::susp(n),
-        SysOp::Msiz => plain::set_a(n, mem.len() as u32),
-        SysOp::Idle => plain::idle(n),
     }
 }
 

@@ -1,14 +1,17 @@
-// Document 01, "Opcodes": what privileged instructions change in the record. c has pc moved on.
+// Document 01, "Opcodes": the privileged instructions that change the record and nothing else. c has pc moved on.
 ghost use mathlib.Core.Path.{_≡_};
 ghost use mathlib.Core.Bool.{true, false};
 ghost use lib.Dec.{eqb};
 ghost use Rattle.word.specs.Word.{if_then_else_, cut};
 ghost use Rattle.rules.specs.Arithmetic.{flag};
+ghost use Rattle.rules.specs.System.{computed as computedOf};
 ghost use Rattle.rules.specs.Record.{putA, withSystem, withClock, withIena, withKsp, withUsp, withIvec, withWaiting, withKbchar, withTimeout, withSpace};
+use decode::PlainOp;
 use paging::Space;
 use rules::Cpu;
+use rules::Stop;
 
-pub fn cli(c: Cpu) -> Cpu
+fn cli(c: Cpu) -> Cpu
     ensures { λ x. ⌜ x ≡ putA (flag (c .system .iena)) (withSystem (withIena false (c .system)) c) ⌝ }
 {
     let mut n = c;
@@ -18,7 +21,7 @@ pub fn cli(c: Cpu) -> Cpu
     n
 }
 
-pub fn sti(c: Cpu) -> Cpu
+fn sti(c: Cpu) -> Cpu
     ensures { λ x. ⌜ x ≡ withSystem (withIena true (c .system)) c ⌝ }
 {
     let mut n = c;
@@ -27,7 +30,7 @@ pub fn sti(c: Cpu) -> Cpu
 }
 
 // a = kbchar, then kbchar = 0xFFFFFFFF.
-pub fn bin(c: Cpu) -> Cpu
+fn bin(c: Cpu) -> Cpu
     ensures { λ x. ⌜ x ≡ putA (c .clock .kbchar) (withClock (withKbchar 0xffffffff (c .clock)) c) ⌝ }
 {
     let mut n = c;
@@ -37,7 +40,7 @@ pub fn bin(c: Cpu) -> Cpu
     n
 }
 
-pub fn ssp(c: Cpu) -> Cpu
+fn ssp(c: Cpu) -> Cpu
     ensures { λ x. ⌜ x ≡ withSystem (withKsp (cut 8 (c .regs .a)) (c .system)) c ⌝ }
 {
     let mut n = c;
@@ -46,7 +49,7 @@ pub fn ssp(c: Cpu) -> Cpu
     n
 }
 
-pub fn susp(c: Cpu) -> Cpu
+fn susp(c: Cpu) -> Cpu
     ensures { λ x. ⌜ x ≡ withSystem (withUsp (cut 8 (c .regs .a)) (c .system)) c ⌝ }
 {
     let mut n = c;
@@ -55,7 +58,7 @@ pub fn susp(c: Cpu) -> Cpu
     n
 }
 
-pub fn ivec(c: Cpu) -> Cpu
+fn ivec(c: Cpu) -> Cpu
     ensures { λ x. ⌜ x ≡ withSystem (withIvec (cut 4 (c .regs .a)) (c .system)) c ⌝ }
 {
     let mut n = c;
@@ -65,7 +68,7 @@ pub fn ivec(c: Cpu) -> Cpu
 }
 
 // TIME with imm not 0 does nothing.
-pub fn time(c: Cpu, imm: u32) -> Cpu
+fn time(c: Cpu, imm: u32) -> Cpu
     ensures { λ x. ⌜ x ≡ (if eqb imm 0 then withClock (withTimeout (c .regs .a) (c .clock)) c else c) ⌝ }
 {
     if imm == 0 {
@@ -87,13 +90,33 @@ pub fn set_a(c: Cpu, v: u32) -> Cpu
 }
 
 // waiting = iena.
-pub fn idle(c: Cpu) -> Cpu
+fn idle(c: Cpu) -> Cpu
     ensures { λ x. ⌜ x ≡ withSystem (withWaiting (c .system .iena) (c .system)) c ⌝ }
 {
     let mut n = c;
     let iena = c.system.iena;
     n.system.waiting = iena;
     n
+}
+
+// Each of them; size is the memory's.
+pub fn computed(c: Cpu, op: PlainOp, size: u32) -> Cpu
+    ensures { λ x. ⌜ x ≡ computedOf size op c ⌝ }
+{
+    match op {
+        PlainOp::Halt => trap::stopped(c, Stop::Halted),
+        PlainOp::Cli => cli(c),
+        PlainOp::Sti => sti(c),
+        PlainOp::Bin => bin(c),
+        PlainOp::Ssp => ssp(c),
+        PlainOp::Ivec => ivec(c),
+        PlainOp::Time(imm) => time(c, imm),
+        PlainOp::Lvad => set_a(c, c.vadr),
+        PlainOp::Lusp => set_a(c, c.system.usp),
+        PlainOp::Susp => susp(c),
+        PlainOp::Msiz => set_a(c, size),
+        PlainOp::Idle => idle(c),
+    }
 }
 
 // PDIR and SPAG: the address space is set.

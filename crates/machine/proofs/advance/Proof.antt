@@ -1,4 +1,5 @@
--- `machine::advance` meets its contract. Assumes nothing.
+-- No quiet step: one step, with its clock event. Else quiet steps: all of them (`advance-all`), or those before an instruction that does not end well, and the rest
+-- of that step (`advance-early`). What is left falls by the steps counted.
 use native.Mathlib.Omega.{arith}
 use mathlib.Core.Path.{refl, _∙_, ap}
 use borrow.Author.Needs.{needs}
@@ -57,24 +58,24 @@ settle-requires c κs =
 
 sub-t39 : tie.Need-sub-t39
 sub-t39 c =
-    let earlier = c .before .before .before .before .before .before .before .before .before .before .before .before .before .before .before .before .before in
-    let instructions = earlier .before .before .before .before .instructions in
+    let at-match = c .before .before .before .before .before .before .before .before .before .before .before .before .before .before .before in
+    let instructions = at-match .before .before .before .before .before .before .instructions in
     instructions .ensures .later
 
 sub-t40 : tie.Need-sub-t40
 sub-t40 c =
-    let at-met = c .before .before .before .before .before .before .before .before .before .before .before .before .before .before .before in
-    let met = at-met .match in
-    let instructions = at-met .before .before .before .before .before .before .instructions in
-    let steps = at-met .before .before .before .before .before .before .before .before .before .before .before .before .steps in
+    let at-match = c .before .before .before .before .before .before .before .before .before .before .before .before .before .before .before in
+    let met = at-match .match in
+    let instructions = at-match .before .before .before .before .before .before .instructions in
+    let steps = at-match .before .before .before .before .before .before .before .before .before .before .before .before .steps in
     omega (arith, instructions .ensures .early (not-ok _ (met .keys2)) .0, few _ _ _ (steps .ensures))
 
 sub-t41 : tie.Need-sub-t41
 sub-t41 c =
-    let at-met = c .before .before .before .before .before .before .before .before .before .before .before .before .before .before .before in
-    let met = at-met .match in
-    let instructions = at-met .before .before .before .before .before .before .instructions in
-    let steps = at-met .before .before .before .before .before .before .before .before .before .before .before .before .steps in
+    let at-match = c .before .before .before .before .before .before .before .before .before .before .before .before .before .before .before in
+    let met = at-match .match in
+    let instructions = at-match .before .before .before .before .before .before .instructions in
+    let steps = at-match .before .before .before .before .before .before .before .before .before .before .before .before .steps in
     omega (arith, instructions .ensures .early (not-ok _ (met .keys2)) .0, few _ _ _ (steps .ensures), instructions .ensures .later)
 
 same-length-4 : tie.Need-same-length-4
@@ -96,11 +97,11 @@ returns-2 c =
     let settle = c .before .before .before .before .before .before .before .before .settle in
     let after = c .before .before .before .before .before .before .before .before .before .before .before .before .before .after in
     let raiseCount = c .before .before .before .before .before .before .before .before .before .before .before .before .before .before .raise-count in
-    let at-met = c .before .before .before .before .before .before .before .before .before .before .before .before .before .before .before in
-    let met = at-met .match in
-    let instructions = at-met .before .before .before .before .before .before .instructions in
-    let if1 = at-met .before .before .before .before .before .before .before .before .before .before .before .if1 in
-    let at-steps = at-met .before .before .before .before .before .before .before .before .before .before .before .before in
+    let at-match = c .before .before .before .before .before .before .before .before .before .before .before .before .before .before .before in
+    let met = at-match .match in
+    let instructions = at-match .before .before .before .before .before .before .instructions in
+    let if1 = at-match .before .before .before .before .before .before .before .before .before .before .before .if1 in
+    let at-steps = at-match .before .before .before .before .before .before .before .before .before .before .before .before in
     let steps = at-steps .steps in
     let given = at-steps .before .before .before .before .args in
     let pre = at-steps .before .before .before .before .pre in

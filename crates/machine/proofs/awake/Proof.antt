@@ -1,4 +1,3 @@
--- `machine::awake` meets its contract. Assumes nothing.
 use mathlib.Core.Path.{refl}
 use Rattle.machine.proofs.awake.Statement.{statement}
 use Rattle.machine.proofs.awake.Tie as tie

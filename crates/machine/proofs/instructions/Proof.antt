@@ -1,4 +1,4 @@
--- `machine::instructions` meets its contract. Assumes nothing.
+-- The instructions of a turn and those before it make the steps of the rules (`MadeFrom`); the loop ends at its limit or at an instruction that does not end well.
 use Prim.Native.Nat.{_-_}
 use native.Mathlib.Omega.{arith}
 use mathlib.Core.Path.{_≡_, refl}
@@ -9,6 +9,7 @@ use Rattle.machine.proofs.InstructionLaws.{not-ok, instructions-early, 
 use Rattle.machine.proofs.instructions.Statement.{statement}
 use Rattle.machine.proofs.instructions.Tie as tie
 
+-- memory and page buffer keep their lengths and are good, and so far the steps up to r's count are made
 abbrev Inv-loop : tie.InvT-loop
 Inv-loop limit user space mem₀ tlb₀ hint₀ r₀ mem tlb hint r =
     (length mem ≡ length mem₀)

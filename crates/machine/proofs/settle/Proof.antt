@@ -1,4 +1,4 @@
--- `machine::settle` meets its contract. Assumes nothing.
+-- One arm for each end of an instruction, each ended by the callee's own contract.
 use borrow.Author.Needs.{needs}
 use Rattle.contracts.proofs.Steps.{finishes-ended}
 use Rattle.rules.specs.Step.{spaceAfter, settleTree}
@@ -14,30 +14,30 @@ returns c =
 returns-2 : tie.Need-returns-2
 unfolding settleTree
 returns-2 c =
-    let e = c .before .before .before .before .before .before .before .before .before .e in
+    let unfetched = c .before .before .before .before .before .before .before .before .before .e in
     let fault = c .before .before .before .before .fault in
-    settle-at _ _ _ _ (e .given .1) (fault .ensures _)
+    settle-at _ _ _ _ (unfetched .given .1) (fault .ensures _)
 
 returns-3 : tie.Need-returns-3
 returns-3 c =
-    let e2 = c .before .before .before .before .before .before .before .before .before .before .e2 in
+    let trapped = c .before .before .before .before .before .before .before .before .before .before .e2 in
     let next-pc = c .before .before .before .before .before .before .before .before .next-pc in
     let trap = c .before .before .before .before .trap in
-    settle-trap _ _ _ _ (e2 .given .1) (next-pc .ensures) (trap .ensures _)
+    settle-trap _ _ _ _ (trapped .given .1) (next-pc .ensures) (trap .ensures _)
 
 returns-4 : tie.Need-returns-4
 returns-4 c =
-    let e3 = c .before .before .before .before .before .before .before .before .before .before .e3 in
+    let refused = c .before .before .before .before .before .before .before .before .before .before .e3 in
     let next-pc2 = c .before .before .before .before .before .before .before .before .next-pc2 in
     let fault2 = c .before .before .before .before .fault2 in
-    settle-refused _ _ _ _ (e3 .given .1) (next-pc2 .ensures) (fault2 .ensures _)
+    settle-refused _ _ _ _ (refused .given .1) (next-pc2 .ensures) (fault2 .ensures _)
 
 returns-5 : tie.Need-returns-5
 unfolding settleTree
 returns-5 c =
-    let e4 = c .before .before .before .before .before .before .before .before .before .before .before .before .e4 in
+    let privileged = c .before .before .before .before .before .before .before .before .before .before .before .before .e4 in
     let system = c .before .before .before .before .before .before .system in
-    settle-at _ _ _ _ (e4 .given .1) (system .ensures)
+    settle-at _ _ _ _ (privileged .given .1) (system .ensures)
 
 pub settle-spec : {M : Type 1} → statement M
 settle-spec =

@@ -1,4 +1,4 @@
--- `machine::step` meets its contract. Assumes nothing.
+-- A step by rules 4 and 5: something is due and delivered, the machine waits, or one instruction is made and settled.
 use native.Mathlib.Omega.{arith}
 use mathlib.Core.Path.{refl}
 use borrow.Author.Needs.{needs}
@@ -16,10 +16,10 @@ returns : tie.Need-returns
 returns c =
     let due-trap = c .before .before .before .before .before .before .before .before .before .before .before .before .before .due-trap in
     let tick = c .before .before .before .before .before .before .before .before .before .before .before .before .tick in
-    let d = c .before .before .before .before .before .before .before .before .before .before .d in
+    let due = c .before .before .before .before .before .before .before .before .before .before .d in
     let awake = c .before .before .before .before .before .before .before .before .awake in
     let deliver = c .before .before .before .before .deliver in
-    step-due _ _ (due-trap .ensures) (tick .ensures) (d .given .1) (awake .ensures) (deliver .ensures _)
+    step-due _ _ (due-trap .ensures) (tick .ensures) (due .given .1) (awake .ensures) (deliver .ensures _)
 
 returns-2 : tie.Need-returns-2
 returns-2 c =

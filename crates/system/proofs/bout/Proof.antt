@@ -1,4 +1,4 @@
--- `system::bout` meets its contract. Assumes nothing.
+-- With room the byte and the count are the leaf's; without, only a changes.
 use mathlib.Core.Path.{refl}
 use borrow.Author.Needs.{needs}
 use Rattle.system.proofs.Rest.{bout-room, bout-full}

@@ -1,4 +1,4 @@
--- `system::moved` meets its contract. Assumes nothing.
+-- pc is what `next_pc` gives.
 use borrow.Author.Needs.{needs}
 use Rattle.system.proofs.moved.Statement.{statement}
 use Rattle.system.proofs.moved.Tie as tie

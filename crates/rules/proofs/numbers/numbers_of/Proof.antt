@@ -1,10 +1,11 @@
--- `rules::numbers::numbers_of` meets its contract. Assumes nothing.
+-- The flags and the stop reason are numbers by their own functions; the rest is the record's.
 use borrow.Author.Needs.{needs}
 use Rattle.rules.proofs.numbers.numbers_of.Statement.{statement}
 use Rattle.rules.proofs.numbers.numbers_of.Tie as tie
 
 returns : tie.Need-returns
-returns c = rw (c .stop-number .ensures, c .before .flag4 .ensures, c .before .before .flag3 .ensures, c .before .before .before .flag2 .ensures, c .before .before .before .before .flag .ensures)
+returns c =
+    rw (c .stop-number .ensures, c .before .flag4 .ensures, c .before .before .flag3 .ensures, c .before .before .before .flag2 .ensures, c .before .before .before .before .flag .ensures)
 
 pub numbers-of-spec : {M : Type 1} → statement M
 numbers-of-spec =

@@ -1,4 +1,4 @@
--- `rules::numbers::record_of` meets its contract. Assumes nothing.
+-- Each number is cut to its width, as `recordBy` does; the stop reason is `stop_of`'s.
 use borrow.Author.Needs.{needs}
 use Rattle.rules.specs.Numbers.{recordBy}
 use Rattle.rules.proofs.numbers.record_of.Statement.{statement}

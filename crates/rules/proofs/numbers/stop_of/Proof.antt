@@ -1,4 +1,4 @@
--- `rules::numbers::stop_of` meets its contract. Assumes nothing.
+-- The tests of the code are those of `stopOf`, in the same order.
 use borrow.Author.Tests.{ne-eqb}
 use Rattle.rules.specs.Numbers.{stopOf}
 use Rattle.rules.proofs.numbers.stop_of.Statement.{statement}

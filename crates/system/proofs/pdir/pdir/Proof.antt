@@ -1,4 +1,4 @@
--- `system::pdir::pdir` meets its contract. Assumes nothing.
+-- Below M the page buffer is emptied and the directory set; else the fault's own contract ends the step.
 use borrow.Author.Needs.{needs}
 use Rattle.system.proofs.AddressSpace.{pdir-set, pdir-fault}
 use Rattle.system.proofs.pdir.pdir.Statement.{statement}

@@ -1,4 +1,4 @@
--- `system::plain::cli` meets its contract. Assumes nothing.
+-- a is the flag as a number.
 use borrow.Author.Needs.{needs}
 use Rattle.system.proofs.plain.cli.Statement.{statement}
 use Rattle.system.proofs.plain.cli.Tie as tie

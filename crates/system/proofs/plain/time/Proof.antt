@@ -1,4 +1,4 @@
--- `system::plain::time` meets its contract. Assumes nothing.
+-- imm is 0 or not.
 use borrow.Author.Tests.{eq-eqb, ne-eqb}
 use Rattle.system.proofs.plain.time.Statement.{statement}
 use Rattle.system.proofs.plain.time.Tie as tie

@@ -1,4 +1,4 @@
--- `system::rti::rti` meets its contract. Assumes nothing.
+-- One law of `Returning.antt` for each `return`: the code cannot be read, pc cannot be read, or both are.
 use native.Mathlib.Omega.{arith}
 use borrow.Author.Needs.{needs}
 use Rattle.memory.specs.declared.Size.the-variants.{Word}

@@ -1,4 +1,4 @@
--- `system::spag::spag` meets its contract. Assumes nothing.
+-- The page buffer is emptied, whatever it held, and the record has the new address space.
 use borrow.Author.Needs.{needs}
 use Rattle.system.proofs.AddressSpace.{spag-set}
 use Rattle.system.proofs.spag.spag.Statement.{statement}

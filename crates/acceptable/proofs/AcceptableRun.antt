@@ -16,17 +16,17 @@ use Rattle.paging.proofs.BoolLaws.{both}
 use Rattle.paging.proofs.BufferLaws.{empty-ok}
 use Rattle.paging.proofs.Coherent.{none-held}
 use Rattle.paging.proofs.ValidBuffer.{Valid}
 use Rattle.rules.specs.declared.Key.{Key}
 use Rattle.rules.specs.declared.RunAnswer.the-variants.{Accepted, BadRegisters}
 use Rattle.rules.specs.Record.{isRunning}
 use Rattle.rules.specs.Step.{State, Stepped, step}
 use Rattle.rules.specs.Run.{registersOk, keysRise, keysOk, consoleOk, budgetOk, isAccepted, runAnswer, stepsOf, lastOf, run}
 use Rattle.rules.proofs.StepAgrees.{step-agrees}
 use Rattle.rules.proofs.ValidStep.{step-keeps}
 use Rattle.rules.proofs.StepCount.{countOf}
 use Rattle.rules.proofs.AcceptedRun.{accepted-tests, size-whole}
 use Rattle.rules.proofs.AcceptableRecord.{registers-acceptable, acceptable-registers}
-use Rattle.rules.proofs.AcceptableStep.{StateAcceptable, step-record, step-console}
+use Rattle.acceptable.proofs.AcceptableStep.{StateAcceptable, step-record, step-console}
 
 -- ---- what a step keeps besides
 

@@ -16,16 +16,17 @@ use Rattle.decode.specs.declared.Reg.{Reg}
 use Rattle.decode.specs.declared.Reg.the-variants as reg
 use Rattle.decode.specs.declared.Instr.{Instr}
 use Rattle.decode.specs.declared.Instr.the-variants.{Illegal, Nop, Trap, Cyc, Jsra, Lba, Lca, Ent, Lev, Jmp, Jmpi, Jsr, Lea, Leag, Block, Load, Store, LoadImm, LoadHigh, Alu, Compare, Bz, Bnz, Branch, Push, Pshi, Pop, Sys}
 use Rattle.rules.specs.declared.Regs.{Regs}
 use Rattle.rules.specs.Record.{setPc, setSp}
 use Rattle.rules.specs.Tree.{Reply, got, denied, Tree}
 use Rattle.rules.specs.Outcome.{Out, fine, unfetched, trap, refused, system, orRefused}
 use Rattle.rules.specs.Arithmetic.{divides, aluTree, aluFrom, holds}
 use Rattle.rules.specs.Transfer.{regOf, putReg, pushTree}
 use Rattle.rules.specs.Jump.{target, branched, indexed}
 use Rattle.rules.specs.Block.{blockEnd, again, byteTree}
 use Rattle.rules.specs.Execute.{executeTree, moved, fetched, instructionTree}
+use Rattle.rules.proofs.LowBits.{sp-set, pc-set}
 use Rattle.rules.proofs.Leaves.{Leaves, at-leaf, at-ask, leaves-if}
 
 -- pc and sp, by their values: a change of another register is none of theirs
 pub record Aligned (pc sp : ℕ) : Type 0 where
@@ -62,16 +63,16 @@ put-aligned reg.B x r h = h
 put-aligned reg.C x r h = h
 
 -- "drop their low three bits"
-sp-set : (x : ℕ) (r : Regs) → RegsAligned r → RegsAligned (setSp x r)
-sp-set x r h = omega arith
+sp-aligned-set : (x : ℕ) (r : Regs) → RegsAligned r → RegsAligned (setSp x r)
+sp-aligned-set x r h = record { pc-aligned = h .pc-aligned; sp-aligned = sp-set x r }
 
 -- "their low two"
-pc-set : (x : ℕ) (r : Regs) → RegsAligned r → RegsAligned (setPc x r)
-pc-set x r h = omega arith
+pc-aligned-set : (x : ℕ) (r : Regs) → RegsAligned r → RegsAligned (setPc x r)
+pc-aligned-set x r h = record { pc-aligned = pc-set x r; sp-aligned = h .sp-aligned }
 
 -- a branch is taken or not
 branch-aligned : (taken : Bool) (imm : ℕ) (r : Regs) → RegsAligned r → RegsAligned (branched taken imm r)
-branch-aligned true imm r h = pc-set (target imm r) r h
+branch-aligned true imm r h = pc-aligned-set (target imm r) r h
 branch-aligned false imm r h = h
 
 -- arithmetic, with its second operand
@@ -88,7 +89,7 @@ from-aligned op (Stack i) r h = at-ask (reply-aligned (λ v. alu-aligned op v r 
 -- a push, with what else it changes
 push-aligned : (v : ℕ) (next r : Regs) → RegsAligned next → AllAligned (pushTree v next r)
 unfolding pushTree
-push-aligned v next r h = at-ask (reply-aligned (λ x. at-leaf (sp-set (difference (r .sp) 8) next h)))
+push-aligned v next r h = at-ask (reply-aligned (λ x. at-leaf (sp-aligned-set (difference (r .sp) 8) next h)))
 
 -- ---- block instructions
 
@@ -124,14 +125,14 @@ execute-aligned Illegal r h = at-leaf tt
 execute-aligned Nop r h = at-leaf h
 execute-aligned Trap r h = at-leaf tt
 execute-aligned Cyc r h = at-leaf h
-execute-aligned Jsra r h = push-aligned _ _ r (pc-set _ r h)
+execute-aligned Jsra r h = push-aligned _ _ r (pc-aligned-set _ r h)
 execute-aligned Lba r h = at-leaf h
 execute-aligned Lca r h = at-leaf h
-execute-aligned (Ent i) r h = at-leaf (sp-set (sum (r .sp) i) r h)
-execute-aligned (Lev i) r h = at-ask (reply-aligned (λ v. at-leaf (pc-set v (setSp (sum (r .sp) (sum i 8)) r) (sp-set (sum (r .sp) (sum i 8)) r h))))
-execute-aligned (Jmp i) r h = at-leaf (pc-set (target i r) r h)
-execute-aligned (Jmpi i) r h = at-leaf (pc-set (indexed i r) r h)
-execute-aligned (Jsr i) r h = push-aligned _ _ r (pc-set _ r h)
+execute-aligned (Ent i) r h = at-leaf (sp-aligned-set (sum (r .sp) i) r h)
+execute-aligned (Lev i) r h = at-ask (reply-aligned (λ v. at-leaf (pc-aligned-set v (setSp (sum (r .sp) (sum i 8)) r) (sp-aligned-set (sum (r .sp) (sum i 8)) r h))))
+execute-aligned (Jmp i) r h = at-leaf (pc-aligned-set (target i r) r h)
+execute-aligned (Jmpi i) r h = at-leaf (pc-aligned-set (indexed i r) r h)
+execute-aligned (Jsr i) r h = push-aligned _ _ r (pc-aligned-set _ r h)
 execute-aligned (Lea i) r h = at-leaf h
 execute-aligned (Leag i) r h = at-leaf h
 execute-aligned (Block op) r h = leaves-if (eqb (r .c) 0) (at-leaf (end-aligned op r h)) (byte-aligned op r h)
@@ -146,7 +147,7 @@ execute-aligned (Bnz i) r h = at-leaf (branch-aligned (not (eqb (r .a) 0)) i r h
 execute-aligned (Branch t i) r h = at-leaf (branch-aligned (holds t (r .a) (r .b)) i r h)
 execute-aligned (Push d) r h = push-aligned (regOf d r) r r h
 execute-aligned (Pshi i) r h = push-aligned i r r h
-execute-aligned (Pop d) r h = at-ask (reply-aligned (λ v. at-leaf (sp-set (sum (r .sp) 8) (putReg d v r) (put-aligned d v r h))))
+execute-aligned (Pop d) r h = at-ask (reply-aligned (λ v. at-leaf (sp-aligned-set (sum (r .sp) 8) (putReg d v r) (put-aligned d v r h))))
 execute-aligned (Sys op) r h = at-leaf tt
 
 -- "pc moves 4 on"

@@ -1,0 +1,3 @@
+pub mod AlignedInstruction
+pub mod AcceptableStep
+pub mod AcceptableRun
