@@ -15,7 +15,8 @@ use Rattle.decode.specs.declared.BlockOp.the-variants.{Mcpy, Mcmp, Mchr, Mset}
 use Rattle.decode.specs.declared.Reg.{Reg}
 use Rattle.decode.specs.declared.Reg.the-variants as reg
 use Rattle.decode.specs.declared.Instr.{Instr}
-use Rattle.decode.specs.declared.Instr.the-variants.{Illegal, Nop, Trap, Cyc, Jsra, Lba, Lca, Ent, Lev, Jmp, Jmpi, Jsr, Lea, Leag, Block, Load, Store, LoadImm, LoadHigh, Alu, Compare, Bz, Bnz, Branch, Push, Pshi, Pop, Sys}
+use Rattle.decode.specs.declared.Instr.the-variants.{Illegal, Nop, Trap, Cyc, Jsra, Lba, Lca, Ent, Lev, Jmp, Jmpi, Jsr, Lea, Leag, Block, Load}
+use Rattle.decode.specs.declared.Instr.the-variants.{Store, LoadImm, LoadHigh, Alu, Compare, Bz, Bnz, Branch, Push, Pshi, Pop, Sys}
 use Rattle.rules.specs.declared.Regs.{Regs}
 use Rattle.rules.specs.Record.{setPc, setSp}
 use Rattle.rules.specs.Tree.{Reply, got, denied, Tree}

@@ -16,7 +16,8 @@ use Rattle.decode.specs.declared.BlockOp.the-variants.{Mcpy, Mcmp, Mchr,
 use Rattle.decode.specs.declared.PlainOp.the-variants.{Halt, Cli, Sti, Bin, Ssp, Ivec, Time, Lvad, Lusp, Susp, Msiz, Idle}
 use Rattle.decode.specs.declared.SysOp.the-variants.{Plain, Rti, Bout, Pdir, Spag}
 use Rattle.decode.specs.declared.Instr.{Instr}
-use Rattle.decode.specs.declared.Instr.the-variants.{Illegal, Nop, Trap, Cyc, Jsra, Lba, Lca, Ent, Lev, Jmp, Jmpi, Jsr, Lea, Leag, Block, Load, Store, LoadImm, LoadHigh, Alu, Compare, Bz, Bnz, Branch, Push, Pshi, Pop, Sys}
+use Rattle.decode.specs.declared.Instr.the-variants.{Illegal, Nop, Trap, Cyc, Jsra, Lba, Lca, Ent, Lev, Jmp, Jmpi, Jsr, Lea, Leag, Block, Load}
+use Rattle.decode.specs.declared.Instr.the-variants.{Store, LoadImm, LoadHigh, Alu, Compare, Bz, Bnz, Branch, Push, Pshi, Pop, Sys}
 
 -- an opcode byte and the instruction that it stands for
 pub record Row : Type 0 where

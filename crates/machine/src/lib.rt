@@ -75,7 +75,8 @@ fn settle(
     hint: &mut [u8; 256],
 ) -> Cpu
     requires { ⌜ Good (length (now mem)) (c .space .pdir) (now tlb) ⌝ }
-    ensures { λ x. ⌜ Finishes (settleTree (length (now (mem .entry))) (length (now (console .entry))) c (outOf d)) c (now (mem .entry)) (now (console .entry)) (now (tlb .entry)) x (now (mem .exit)) (now (console .exit)) (now (tlb .exit)) ⌝ }
+    ensures { λ x. ⌜ Finishes (settleTree (length (now (mem .entry))) (length (now (console .entry))) c (outOf d))
+        c (now (mem .entry)) (now (console .entry)) (now (tlb .entry)) x (now (mem .exit)) (now (console .exit)) (now (tlb .exit)) ⌝ }
 {
     let e = d.end;
     match e {

@@ -5,7 +5,8 @@ use lib.Dec.{eqb}
 use Rattle.word.specs.Word.{sum}
 use Rattle.decode.specs.Opcodes.{decodeOf}
 use Rattle.decode.specs.declared.Instr.{Instr}
-use Rattle.decode.specs.declared.Instr.the-variants.{Illegal, Nop, Trap, Cyc, Jsra, Lba, Lca, Ent, Lev, Jmp, Jmpi, Jsr, Lea, Leag, Block, Load, Store, LoadImm, LoadHigh, Alu, Compare, Bz, Bnz, Branch, Push, Pshi, Pop, Sys}
+use Rattle.decode.specs.declared.Instr.the-variants.{Illegal, Nop, Trap, Cyc, Jsra, Lba, Lca, Ent, Lev, Jmp, Jmpi, Jsr, Lea, Leag, Block, Load}
+use Rattle.decode.specs.declared.Instr.the-variants.{Store, LoadImm, LoadHigh, Alu, Compare, Bz, Bnz, Branch, Push, Pshi, Pop, Sys}
 use Rattle.paging.specs.declared.Access.the-variants.{Fetch}
 use Rattle.paging.specs.TrapCode.{FINST, FSYS}
 use Rattle.rules.specs.declared.Regs.{Regs}

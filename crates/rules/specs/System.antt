@@ -13,7 +13,8 @@ use Rattle.paging.specs.Walk.{bit}
 use Rattle.paging.specs.TrapCode.{FMEM, FPRIV, USER}
 use Rattle.rules.specs.declared.Stop.the-variants.{Halted}
 use Rattle.rules.specs.declared.Cpu.{Cpu}
-use Rattle.rules.specs.Record.{setPc, setSp, withSp, withRegs, withSystem, withClock, withStop, withWritten, withUsp, withKsp, withPdir, withPaging, withIvec, withUser, withIena, withWaiting, withTimeout, withKbchar, putA}
+use Rattle.rules.specs.Record.{setPc, setSp, withSp, withRegs, withSystem, withClock, withStop, withWritten, withUsp, withKsp, withPdir}
+use Rattle.rules.specs.Record.{withPaging, withIvec, withUser, withIena, withWaiting, withTimeout, withKbchar, putA}
 use Rattle.rules.specs.Tree.{Reply, got, denied, Tree, ask, access}
 use Rattle.rules.specs.Arithmetic.{flag}
 use Rattle.rules.specs.Execute.{moved}

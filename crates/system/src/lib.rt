@@ -49,7 +49,8 @@ fn privileged(
     hint: &mut [u8; 256],
 ) -> Cpu
     requires { ⌜ Good (length (now mem)) (c .space .pdir) (now tlb) ⌝ }
-    ensures { λ x. ⌜ Finishes (privilegedTree (length (now (mem .entry))) (length (now (console .entry))) op c (movedOn c)) c (now (mem .entry)) (now (console .entry)) (now (tlb .entry)) x (now (mem .exit)) (now (console .exit)) (now (tlb .exit)) ⌝ }
+    ensures { λ x. ⌜ Finishes (privilegedTree (length (now (mem .entry))) (length (now (console .entry))) op c (movedOn c))
+        c (now (mem .entry)) (now (console .entry)) (now (tlb .entry)) x (now (mem .exit)) (now (console .exit)) (now (tlb .exit)) ⌝ }
 {
     let n = moved(c);
     match op {
@@ -71,7 +72,8 @@ pub fn system(
     hint: &mut [u8; 256],
 ) -> Cpu
     requires { ⌜ Good (length (now mem)) (c .space .pdir) (now tlb) ⌝ }
-    ensures { λ x. ⌜ Finishes (systemTree (length (now (mem .entry))) (length (now (console .entry))) op c) c (now (mem .entry)) (now (console .entry)) (now (tlb .entry)) x (now (mem .exit)) (now (console .exit)) (now (tlb .exit)) ⌝ }
+    ensures { λ x. ⌜ Finishes (systemTree (length (now (mem .entry))) (length (now (console .entry))) op c)
+        c (now (mem .entry)) (now (console .entry)) (now (tlb .entry)) x (now (mem .exit)) (now (console .exit)) (now (tlb .exit)) ⌝ }
 {
     if c.system.user {
         return trap::trap(c, paging::FPRIV, trap::next_pc(c), mem, tlb, hint);
