@@ -12,7 +12,7 @@ use Rattle.word.specs.Word.{if_then_else_}
 use Rattle.memory.specs.Memory.{sizeOk}
 use Rattle.paging.specs.declared.Entry.{Entry}
 use Rattle.paging.specs.Translate.{Translator, buffered, reader}
-use Rattle.paging.proofs.BoolLaws.{both}
+use Rattle.word.proofs.BoolLaws.{both}
 use Rattle.paging.proofs.BufferLaws.{empty-ok}
 use Rattle.paging.proofs.Coherent.{none-held}
 use Rattle.paging.proofs.ValidBuffer.{Valid}

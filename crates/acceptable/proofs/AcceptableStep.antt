@@ -15,7 +15,7 @@ use Rattle.paging.specs.declared.Space.{Space}
 use Rattle.paging.specs.TrapCode.{USER}
 use Rattle.paging.specs.Translate.{Translator}
 use Rattle.paging.specs.Walk.{bit}
-use Rattle.paging.proofs.BoolLaws.{both}
+use Rattle.word.proofs.BoolLaws.{both}
 use Rattle.rules.specs.declared.Clock.{Clock}
 use Rattle.rules.specs.declared.Cpu.{Cpu}
 use Rattle.rules.specs.declared.Key.{Key}

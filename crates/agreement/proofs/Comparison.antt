@@ -9,7 +9,7 @@ use Rattle.word.specs.Word.{if_then_else_}
 use Rattle.paging.specs.Event.{Words}
 use Rattle.paging.specs.Held.{heldAfter, storesHeld}
 use Rattle.paging.specs.Translate.{Translator, buffered, reader}
-use Rattle.paging.proofs.BoolLaws.{neither}
+use Rattle.word.proofs.BoolLaws.{neither}
 use Rattle.rules.specs.declared.Cpu.{Cpu}
 use Rattle.rules.specs.Step.{State, Stepped}
 use Rattle.rules.specs.Run.{runNumber, reported, run}

@@ -10,7 +10,7 @@ use lib.ListN.{length, getD, set}
 use lib.Seq.{getD-set-same}
 use Rattle.paging.specs.Event.{Event, Words}
 use Rattle.paging.specs.Held.{heldAfter, storesHeld}
-use Rattle.paging.proofs.BoolLaws.{neither}
+use Rattle.word.proofs.BoolLaws.{neither}
 use Rattle.rules.specs.declared.Cpu.{Cpu}
 use Rattle.rules.specs.Numbers.{numbersOf}
 use Rattle.rules.specs.Step.{State, Stepped}

@@ -6,7 +6,7 @@ use mathlib.Core.List.{List, [], _∷_, _++_, map}
 use lib.ListN.{length, drop}
 use Rattle.paging.specs.Event.{Words}
 use Rattle.paging.specs.Held.{heldAfter, storesHeld}
-use Rattle.paging.proofs.BoolLaws.{neither}
+use Rattle.word.proofs.BoolLaws.{neither}
 use Rattle.rules.specs.Step.{Stepped}
 use Rattle.agreement.specs.Agreement.{Transcript, Shown, shown, AgreeSteps, Agree}
 use Rattle.agreement.proofs.Comparison.{heldThrough, storesThrough, statesOf}

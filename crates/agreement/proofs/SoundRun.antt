@@ -8,7 +8,7 @@ use Rattle.paging.specs.declared.Entry.{Entry}
 use Rattle.paging.specs.Event.{Words}
 use Rattle.paging.specs.Held.{heldAfter, storesHeld}
 use Rattle.paging.specs.Translate.{buffered}
-use Rattle.paging.proofs.BoolLaws.{neither}
+use Rattle.word.proofs.BoolLaws.{neither}
 use Rattle.rules.specs.declared.Key.{Key}
 use Rattle.rules.specs.Record.{isRunning}
 use Rattle.rules.specs.Step.{Stepped, step}

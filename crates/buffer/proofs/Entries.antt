@@ -12,7 +12,7 @@ use Rattle.word.specs.Word.{if_then_else_}
 use Rattle.paging.specs.declared.Access.{Access}
 use Rattle.paging.specs.declared.Entry.{Entry}
 use Rattle.paging.specs.Buffer.{serves, hit, has, entryPage, capacity, entryOk, entriesOk, bufferOk}
-use Rattle.paging.proofs.BoolLaws.{both}
+use Rattle.word.proofs.BoolLaws.{both}
 use Rattle.buffer.specs.Held.{unpack, indexOf}
 
 -- ---- the parts of the test

@@ -11,7 +11,7 @@ use lib.Dec.{ltb}
 use borrow.Author.Tests.{ltb-true}
 use Rattle.paging.specs.declared.Entry.{Entry}
 use Rattle.paging.specs.Buffer.{has, entryPage, entryOk, entriesOk, bufferOk}
-use Rattle.paging.proofs.BoolLaws.{both}
+use Rattle.word.proofs.BoolLaws.{both}
 use Rattle.buffer.specs.Held.{frames, pageIn, count, entry, unpack, entriesIn, Buffer}
 use Rattle.buffer.proofs.Slots.{length-held, held-at, map-snoc}
 use Rattle.buffer.proofs.Entries.{buffer-entries}

@@ -10,7 +10,7 @@ use lib.Dec.{ltb, leb, eqb}
 use borrow.Author.Tests.{eqb-true, eqb-false, ne-eqb, ltb-true, leb-true, le-leb, not-true}
 use Rattle.paging.specs.declared.Entry.{Entry}
 use Rattle.paging.specs.Buffer.{has, place, entryPage, capacity, fits, roomIn, keep, entryOk, entriesOk, bufferOk}
-use Rattle.paging.proofs.BoolLaws.{both, neither}
+use Rattle.word.proofs.BoolLaws.{both, neither}
 
 -- the empty buffer
 pub empty-ok : (size : ℕ) → bufferOk size [] ≡ true

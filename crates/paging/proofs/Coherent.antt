@@ -16,7 +16,7 @@ use Rattle.paging.specs.declared.Entry.{Entry}
 use Rattle.paging.specs.Event.{Words}
 use Rattle.paging.specs.Walk.{present, writable, forUser, accessed, dirty, dirAt, tabAt}
 use Rattle.paging.specs.Held.{touches, touchesHeld}
-use Rattle.paging.proofs.BoolLaws.{neither}
+use Rattle.word.proofs.BoolLaws.{neither}
 use Rattle.paging.proofs.TableWord.{is-P, is-W, is-U, is-A, is-D, MarkedWord, flag-kept, MarkedMemory}
 
 -- ---- the invariant

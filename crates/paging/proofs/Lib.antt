@@ -1,5 +1,4 @@
 pub mod AllowedStores
-pub mod BoolLaws
 pub mod TableWord
 pub mod Coherent
 pub mod ServedRequest

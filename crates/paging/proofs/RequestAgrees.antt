@@ -15,7 +15,7 @@ use Rattle.paging.specs.Walk.{Found, fault, found, Walked, walk}
 use Rattle.paging.specs.Buffer.{serves, hit, place, entryPage, wordsPage, fits, roomIn, keepEvents, keep, afterWalk, walkEvents}
 use Rattle.paging.specs.Held.{heldAfter, storesHeld}
 use Rattle.paging.specs.Translate.{Request, Outcome, outcome, pageOf, refilled, pagedBy, paged, translateBy, buffered, walkedBy, readBy, reader}
-use Rattle.paging.proofs.BoolLaws.{both}
+use Rattle.word.proofs.BoolLaws.{both}
 use Rattle.paging.proofs.Coherent.{CoherentEntry, Coherent, none-held, one-more, coherent-marked}
 use Rattle.paging.proofs.ServedRequest.{WalkGives, served-walk}
 use Rattle.paging.proofs.EventLaws.{held-append, stores-append, keep-stores}

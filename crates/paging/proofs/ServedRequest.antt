@@ -11,7 +11,7 @@ use Rattle.paging.specs.Event.{Words}
 use Rattle.paging.specs.Walk.{isWrite, userOk, writeOk, allows, markFor, found, Walked, walkFrame, walkTable, walkBelow, walkDir, walk}
 use Rattle.paging.specs.Buffer.{serves}
 use Rattle.paging.specs.Translate.{Request, inFrame, answerOf}
-use Rattle.paging.proofs.BoolLaws.{both}
+use Rattle.word.proofs.BoolLaws.{both}
 use Rattle.paging.proofs.TableWord.{mark-A, mark-D, mark-again}
 use Rattle.paging.proofs.Coherent.{Maps, CoherentEntry}
 

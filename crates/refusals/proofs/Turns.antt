@@ -11,7 +11,7 @@ use lib.Dec.{eqb}
 use borrow.Author.Tests.{eq-eqb, ne-eqb, eqb-true, eqb-false, le-leb, lt-leb}
 use Rattle.paging.specs.declared.Entry.{Entry}
 use Rattle.paging.specs.Buffer.{has, entryPage, entryOk, entriesOk, bufferOk}
-use Rattle.paging.proofs.BoolLaws.{both}
+use Rattle.word.proofs.BoolLaws.{both}
 use Rattle.rules.specs.Load.{zeroEntry}
 use Rattle.refusals.specs.View.{firstSlots}
 use Rattle.refusals.proofs.Slots.{first-take, first-length}

@@ -10,7 +10,7 @@ use Rattle.paging.specs.declared.Space.{Space}
 use Rattle.paging.specs.Event.{Words}
 use Rattle.paging.specs.Held.{heldAfter, touchesHeld, storesHeld}
 use Rattle.paging.specs.Translate.{buffered, reader}
-use Rattle.paging.proofs.BoolLaws.{neither}
+use Rattle.word.proofs.BoolLaws.{neither}
 use Rattle.paging.proofs.Coherent.{Coherent, coherent-stored}
 use Rattle.paging.proofs.EventLaws.{held-append, stores-append}
 use Rattle.paging.proofs.RequestAgrees.{Sound, emptied-coherent}

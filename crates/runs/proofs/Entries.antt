@@ -9,7 +9,7 @@ use lib.Dec.{leb}
 use borrow.Author.Tests.{leb-true}
 use Rattle.paging.specs.declared.Entry.{Entry}
 use Rattle.paging.specs.Buffer.{bufferOk}
-use Rattle.paging.proofs.BoolLaws.{both}
+use Rattle.word.proofs.BoolLaws.{both}
 use Rattle.buffer.specs.Held.{count, unpack, Buffer}
 use Rattle.mmu.specs.Translates.{keptIn}
 use Rattle.buffer.proofs.Slots.{length-held}

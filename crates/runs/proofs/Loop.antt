@@ -7,7 +7,7 @@ use mathlib.Core.List.{List}
 use lib.ListN.{length}
 use lib.Dec.{ltb, eqb}
 use borrow.Author.Tests.{ltb-true, eqb-true, lt-ltb, eq-eqb}
-use Rattle.paging.proofs.BoolLaws.{both}
+use Rattle.word.proofs.BoolLaws.{both}
 use Rattle.mmu.specs.Good.{Good}
 use Rattle.clock.specs.Due.{KeyFits}
 use Rattle.rules.specs.declared.Cpu.{Cpu}

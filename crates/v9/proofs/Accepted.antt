@@ -9,7 +9,7 @@ use borrow.Author.Tests.{ltb-true, leb-true}
 use Rattle.word.specs.Word.{if_then_else_}
 use Rattle.memory.specs.Memory.{sizeOk}
 use Rattle.paging.specs.Buffer.{bufferOk}
-use Rattle.paging.proofs.BoolLaws.{both}
+use Rattle.word.proofs.BoolLaws.{both}
 use Rattle.walk.specs.Directory.{Directory}
 use Rattle.rules.specs.declared.Cpu.{Cpu}
 use Rattle.rules.specs.declared.Machine.{Machine}

@@ -14,14 +14,10 @@ use mir.Syntax.{w32}
 use mir.Val.{toZ, ofZ, Fits, SFits}
 use mir.Facts.{toZ-ofZ, ofZ-toZ, sfits-toZ}
 use Rattle.word.specs.Word.{quotient, remainder}
+use Rattle.word.proofs.BoolLaws.{both}
 use Rattle.word.proofs.Conversion.{on-signed}
 
 -- ---- the test for -2^31 by -1
-
--- both parts of a test that passed
-both : (b c : Bool) → (b && c) ≡ true → (b ≡ true) × (c ≡ true)
-both true c e = (refl, e)
-both false c e = (e, cc)
 
 -- where it passed, f has the value that it has at the two constants
 pub passed : (f : ℕ → ℕ → ℕ) (x y : ℕ) {a b r : ℕ} → f a b ≡ r → (eqb x a && eqb y b) ≡ true → r ≡ f x y

@@ -1,3 +1,4 @@
+pub mod BoolLaws
 pub mod Conversion
 pub mod Division
 pub mod Shift
