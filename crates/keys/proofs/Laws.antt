@@ -3,12 +3,11 @@
 use Prim.Native.Nat.{ℕ, suc, _<_, _≤_}
 use mathlib.Core.Bool.{Bool, true, false, _&&_, and-assoc, and-true}
 use mathlib.Core.List.{List}
-use mathlib.Core.Path.{_≡_, refl, sym}
-use borrow.Author.Tests.{lt-ltb, le-ltb, ltb-true}
-use lib.Dec.{ltb, leb}
+use mathlib.Core.Path.{_≡_, sym}
+use borrow.Author.Tests.{lt-ltb, le-ltb}
+use lib.Dec.{leb}
 use lib.ListN.{length, getD, drop, drop-of-length-le}
 use lib.Seq.{drop-cons}
-use Rattle.word.specs.Word.{if_then_else_}
 use Rattle.rules.specs.declared.Key.{Key}
 use Rattle.rules.specs.declared.Next.{Next}
 use Rattle.rules.specs.Run.{keysRise}
@@ -46,13 +45,3 @@ module _ (ks : List Key) (i : ℕ) where
   pub next-none : length ks ≤ i → nextOf ks i ≡ noNext
   unfolding nextOf
   next-none l = rw (le-ltb i (length ks) l)
-
--- a choice that has a key was decided for it
-chosen-some : (t : Bool) (k : Key) → (if t then someNext k else noNext) .some ≡ true → t ≡ true
-chosen-some true k e = refl
-chosen-some false k e = e
-
--- a next key is there only where fewer keys are taken than the list has
-pub next-below : (ks : List Key) (taken : ℕ) → nextOf ks taken .some ≡ true → taken < length ks
-unfolding nextOf
-next-below ks taken e = ltb-true taken (length ks) (chosen-some (ltb taken (length ks)) (getD ks taken noKey) e)

@@ -1,6 +1,6 @@
 -- Loads and stores, shown once over the width n in bytes. Document 01, "What is emulated": "Words are little-endian". Assumes nothing.
 use Prim.Native.Nat.{ℕ, zero, suc, _+_, _*_, _/_, _%_, _^_, _≤_, _<_}
-use mathlib.Core.List.{List, [], _∷_}
+use mathlib.Core.List.{List}
 use mathlib.Core.Logic.{_⊎_, inl, inr, ⊎-elim}
 use mathlib.Core.Path.{_≡_, refl, sym, _∙_, ap}
 use native.Mathlib.Nat.{zero-add, add-zero, suc-add, add-suc, mul-assoc, pow-suc, pow-succ', div-one, mod-one, div-div-eq-div-mul}
@@ -91,25 +91,3 @@ load-stored (suc n) m at v h =
       mod-mul v (pow256-pos n) c,
     )
     (omega arith)
-
--- a load of n bytes is below 256 ^ n
-pub load-lt : (n : ℕ) (m : List ℕ) (at : ℕ) → ((i : ℕ) → getD m i 0 < 256) → loadN n m at < 256 ^ n
-unfolding loadN
-load-lt zero m at h = omega arith
-load-lt (suc n) m at h = rw (pow-suc 256 n) (omega (arith, h at, load-lt n m (suc at) h))
-
--- ---- bytes stay bytes
-
--- after one byte is set
-set-lt : (m : List ℕ) (at b : ℕ) → b < 256 → ((i : ℕ) → getD m i 0 < 256) → (i : ℕ) → getD (set m at b) i 0 < 256
-set-lt [] at b l h i = h i
-set-lt (x ∷ m) zero b l h zero = l
-set-lt (x ∷ m) zero b l h (suc i) = h (suc i)
-set-lt (x ∷ m) (suc at) b l h zero = h zero
-set-lt (x ∷ m) (suc at) b l h (suc i) = set-lt m at b l (λ j. h (suc j)) i
-
--- after a store
-pub store-lt : (n : ℕ) (m : List ℕ) (at v : ℕ) → ((i : ℕ) → getD m i 0 < 256) → (i : ℕ) → getD (storeN n m at v) i 0 < 256
-unfolding storeN
-store-lt zero m at v h i = h i
-store-lt (suc n) m at v h i = store-lt n (set m at (v % 256)) (suc at) (v / 256) (set-lt m at (v % 256) (omega arith) h) i

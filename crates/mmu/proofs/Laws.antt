@@ -6,8 +6,7 @@ use mathlib.Core.Path.{_≡_, sym, ap, _∙_, subst}
 use mathlib.Core.List.{List, []}
 use lib.ListN.{length}
 use Rattle.memory.specs.declared.Size.{Size}
-use Rattle.memory.specs.Memory.{storeN, bytes}
-use Rattle.memory.proofs.Laws.{length-store}
+use Rattle.memory.specs.Memory.{bytes}
 use Rattle.paging.specs.declared.Access.{Access}
 use Rattle.paging.specs.declared.Answer.{Answer}
 use Rattle.paging.specs.declared.Space.{Space}
@@ -51,14 +50,6 @@ at-within n {s} {k} {addr} {user} {m} {l} {a} {m′} {l′} {p} g t e =
     rw (length-kept g t) w′
 
 -- ---- what stays good
-
--- of a memory only the length counts
-pub good-at : {n n′ pdir : ℕ} {l : List ℕ} → Good n pdir l → n′ ≡ n → Good n′ pdir l
-good-at {n} {n′} {pdir} {l} g e = subst (λ (k : ℕ). Good k pdir l) (sym e) g
-
--- a store into memory
-pub good-stored : (m : List ℕ) (n at v : ℕ) {pdir : ℕ} {l : List ℕ} → Good (length m) pdir l → Good (length (storeN n m at v)) pdir l
-good-stored m n at v g = good-at g (length-store n m at v)
 
 -- an emptied buffer, with this directory or another one
 pub good-emptied : {n pdir pdir′ : ℕ} {l l′ : List ℕ} → Good n pdir l → pdir′ % 4096 ≡ 0 → pdir′ < n → entriesIn l′ ≡ [] → Buffer l′ → Good n pdir′ l′

@@ -1,5 +1,5 @@
 -- Document 01, "Numbers returned": a run goes on by one key, from what its parts ensure.
-use Prim.Native.Nat.{ℕ, _+_, _-_, _≤_}
+use Prim.Native.Nat.{ℕ, _+_, _-_}
 use native.Mathlib.Omega.{arith}
 use mathlib.Core.Bool.{Bool}
 use mathlib.Core.Path.{_≡_, refl, sym, _∙_, ap, subst}
@@ -40,9 +40,6 @@ module _ {g : UnderWay} {m : List ℕ} (b : Able g (length m)) {l : List ℕ} (h
   }
 
   module _ {k : Next} {con m′ con′ l′ : List ℕ} {a : Advanced} (t : Goes (g .ran .machine .cpu) (g .left) k m con l a m′ con′ l′) where
-    pub counts-rise : g .ran .machine .cpu .regs .count ≤ a .cpu .regs .count
-    counts-rise = omega (arith, t .later)
-
     module _ (es : List Entry) (e : take (count l′) es ≡ keptIn l′) {n : ℕ} (c : n ≡ count l′) where
       first : firstSlots n es ≡ keptIn l′
       first = rw c (unpacked-first l′ es (t .good .buffer) e)

@@ -48,14 +48,3 @@ module _ (n x : ℕ) (p : 0 < n) (l : n ≤ 32) (h : x < 2 ^ n) where
   -- the signed reading of the word is that of the n bits
   pub extend-signed : toZ w32 (extend n x) ≡ (if ltb x (2 ^ (n - 1)) then pos x else negsuc (2 ^ n - suc x))
   extend-signed = signed-by (ltb x (2 ^ (n - 1))) refl
-
--- a number of at most 32 bits gives a word
-module _ (n x : ℕ) (l : n ≤ 32) (h : x < 2 ^ n) where
-  -- by the sign bit
-  lt-by : (b : Bool) → ltb x (2 ^ (n - 1)) ≡ b → extend n x < 2 ^ 32
-  lt-by true e = let m : 2 ^ n ≤ 2 ^ 32 = pow-mono l in rw (← extend-clear n (ltb-true _ _ e)) (omega arith)
-  lt-by false e = let m : 2 ^ n ≤ 2 ^ 32 = pow-mono l in rw (← extend-set n (ltb-false _ _ e)) (omega arith)
-
-  -- below 2 ^ 32
-  pub extend-lt : extend n x < 2 ^ 32
-  extend-lt = lt-by (ltb x (2 ^ (n - 1))) refl

@@ -11,7 +11,7 @@ use lib.Signed.{shrZ, mag-shr}
 use mir.Syntax.{w32}
 use mir.Val.{toZ, Fits, SFits}
 use mir.Facts.{toZ-ofZ, sfits-toZ}
-use Rattle.word.specs.Word.{shiftRight, shiftCount}
+use Rattle.word.specs.Word.{shiftRight}
 
 -- a shift to the right stays in the range
 pub shift-fits : {x : ℕ} (m : ℕ) → Fits w32 x → SFits w32 (shrZ (toZ w32 x) m)
@@ -41,8 +41,3 @@ unfolding shiftRight
 shift-floor x n h =
     let f : Fits w32 x = record { fits = h } in
     rw (toZ-ofZ (shift-fits (2 ^ n) f)) (floor-of (toZ w32 x) (2 ^ n) (pow-pos n))
-
--- a count is below 32
-pub shiftCount-lt : (n : ℕ) → shiftCount n < 32
-unfolding shiftCount
-shiftCount-lt n = omega arith
