@@ -1,41 +1,22 @@
--- Document 01, "Numbers returned": what holds of a file that is not refused. Assumes nothing.
-use Prim.Native.Nat.{ℕ, _-_, _%_, _<_, _≤_}
-use mathlib.Core.Bool.{Bool, true, false, _&&_}
+-- Document 01, "Numbers returned": a load by what its parts ensure: the answer decides whether the file is loaded.
+use Prim.Native.Nat.{ℕ}
 use mathlib.Core.List.{List}
 use mathlib.Core.Path.{_≡_, refl, sym, _∙_, ap}
 use native.Mathlib.Omega.{arith}
-use borrow.Author.Tests.{leb-true}
-use lib.Dec.{eqb, ltb, leb}
 use lib.ListN.{length}
-use Rattle.word.specs.Word.{if_then_else_}
-use Rattle.word.proofs.BoolLaws.{both}
-use Rattle.memory.specs.Memory.{sizeOk}
 use Rattle.executable.specs.declared.LoadAnswer.{LoadAnswer}
 use Rattle.executable.specs.declared.LoadAnswer.the-variants.{Accepted, BadSize, ShortFile, BadMagic, BadBody, BadDataStart, BadEntry}
-use Rattle.executable.specs.Executable.{loadNumber, magicOf, entryOf, bodyOf, bodyOk, loadAnswer}
+use Rattle.executable.specs.Executable.{loadNumber, entryOf, bodyOf, loadAnswer}
+use Rattle.executable.proofs.Accepted.{fit}
 use Rattle.rules.specs.declared.Cpu.{Cpu}
 use Rattle.rules.specs.declared.Machine.{Machine}
 use Rattle.rules.specs.Load.{Loaded, cpuWith, zeroCpu, emptyMachine, image, loadBy, load}
 use Rattle.loader.specs.declared.Loaded.{Loaded as Result}
 use Rattle.loader.specs.Loader.{Loadable, loadedWith, LoadsAs}
 
--- a choice whose other side is a refusal
-chosen : (t : Bool) (x y : LoadAnswer) → 0 < loadNumber y → (if t then x else y) ≡ Accepted → (t ≡ true) × (x ≡ Accepted)
-chosen true x y r e = (refl, e)
-chosen false x y r e = let z : 0 < loadNumber Accepted = rw e at r in absurd (omega arith)
-
 -- an accepted file can be loaded
-pub loadable : (size : ℕ) (file : List ℕ) → loadAnswer size file ≡ Accepted → Loadable size file
-unfolding loadAnswer sizeOk
-loadable size file e =
-    let s = chosen (sizeOk size) _ _ (omega arith) e in
-    let l = chosen (leb 16 (length file)) _ _ (omega arith) (s .1) in
-    let m = chosen (eqb (magicOf file) 0xc0def00d) _ _ (omega arith) (l .1) in
-    let b = chosen (bodyOk size (length file - 16)) _ _ (omega arith) (m .1) in
-    let h : 16 ≤ length file = leb-true 16 (length file) (l .0) in
-    let f : length file - 16 ≤ size = leb-true (length file - 16) size (both (ltb 0 (length file - 16)) _ (b .0) .1) in
-    let n : size ≤ 134217728 = leb-true size 134217728 (both (ltb 0 size && eqb (size % 4096) 0) (leb size 134217728) (s .0) .1) in
-    record { header = h; body = omega arith; small = omega arith }
+loadable : (size : ℕ) (file : List ℕ) → loadAnswer size file ≡ Accepted → Loadable size file
+loadable size file e = let f = fit size file e in record { header = f .header; body = omega arith; small = omega arith }
 
 -- the answer of number 0 is the accepting one
 accepting : (a : LoadAnswer) → loadNumber a ≡ 0 → a ≡ Accepted

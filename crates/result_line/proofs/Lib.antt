@@ -1,3 +1,4 @@
--- What the proofs of several functions use.
 mod Stop
 mod Printed
+mod Example
+mod Accepted

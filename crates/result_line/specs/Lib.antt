@@ -1,5 +1,3 @@
 pub mod Line
 pub mod Room
-pub mod Example
 pub mod Program
-pub mod Accepted
