@@ -1,3 +1,4 @@
+mod Room
 mod Stop
 mod Printed
 mod Example

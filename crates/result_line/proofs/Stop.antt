@@ -5,9 +5,10 @@ use mathlib.Core.Path.{_≡_}
 use native.Mathlib.Omega.{arith}
 use lib.ListN.{length}
 use Rattle.rules.specs.declared.Regs.{Regs}
-use Rattle.text.specs.Laws.{written-then}
+use Rattle.text.proofs.Laws.{written-then}
 use Rattle.result_line.specs.Line.{stopLine, stopName, stepsName, aName, bName, cName, spName, pcName, Shows}
-use Rattle.result_line.specs.Room.{Named, shows}
+use Rattle.result_line.specs.Room.{Named}
+use Rattle.result_line.proofs.Room.{shows}
 
 -- of a line with room for all, at most u bytes are used
 pub record Within (u : ℕ) (l : List ℕ) (r : ℕ) : Type 0 where

@@ -9,7 +9,7 @@ use lib.Dec.{ltb}
 use lib.ListN.{getD, List·getD-append}
 use Rattle.word.specs.Word.{if_then_else_}
 use Rattle.text.specs.Digits.{digitOf, digits, decimalOf}
-use Rattle.text.specs.Laws.{some-digit}
+use Rattle.text.proofs.Laws.{some-digit}
 
 -- the number that digits stand for, after others whose number is v
 unfoldable pub valueOf : ℕ → List ℕ → ℕ

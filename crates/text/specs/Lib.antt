@@ -1,4 +1,2 @@
 pub mod Digits
 pub mod Written
-pub mod Laws
-pub mod Value

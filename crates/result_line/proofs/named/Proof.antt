@@ -1,6 +1,6 @@
 -- `result_line::named` meets its contract. Assumes nothing.
-use Rattle.result_line.specs.Room.{named-room}
-use Rattle.text.specs.Laws.{written-then}
+use Rattle.result_line.proofs.Room.{named-room}
+use Rattle.text.proofs.Laws.{written-then}
 use borrow.Author.Needs.{needs}
 use Rattle.result_line.proofs.named.Statement.{statement}
 use Rattle.result_line.proofs.named.Tie as tie

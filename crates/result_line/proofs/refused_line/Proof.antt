@@ -1,5 +1,5 @@
 -- `result_line::refused_line` meets its contract. Assumes nothing.
-use Rattle.result_line.specs.Room.{shows}
+use Rattle.result_line.proofs.Room.{shows}
 use Rattle.result_line.specs.Line.{refusedLine}
 use borrow.Author.Needs.{needs}
 use Rattle.result_line.proofs.refused_line.Statement.{statement}

@@ -1,4 +1,4 @@
--- `text::digit` meets its contract. Assumes nothing.
+-- `text::digit` writes a single byte, which fits since the digit is below 10.
 use borrow.Author.Needs.{needs}
 use Rattle.text.proofs.Copy.{written-byte}
 use Rattle.text.proofs.digit.Statement.{statement}

@@ -1,4 +1,4 @@
--- `text::put` meets its contract. The loop: the first i bytes stand in the line from `at` on. Assumes nothing.
+-- `text::put` copies its bytes one by one; the loop's laws are those of `Copied`, at its start, one byte on and at its end.
 use Prim.Native.Nat.{_-_}
 use borrow.Author.Needs.{needs}
 use lib.ListN.{length}
@@ -6,6 +6,7 @@ use Rattle.text.proofs.Copy.{Copied, copied-start, copied-on, copied-en
 use Rattle.text.proofs.put.Statement.{statement}
 use Rattle.text.proofs.put.Tie as tie
 
+-- the first i bytes stand in the line from `at` on, and the rest of the line is as it was
 abbrev Inv-loop : tie.InvT-loop
 Inv-loop line₀ at bytes i₀ line i = Copied bytes line₀ at i line
 
