@@ -1,2 +1,3 @@
 pub mod Laws
 pub mod Packed
+pub mod HandWalks

@@ -1,6 +1,5 @@
--- `keys::next_key` meets its contract: a walk of its MIR, by hand, with a branch. Where there is a key the slice is looked into, the element
--- is taken out of the row, copied, and put back.
--- Assumes nothing.
+-- `keys::next_key`: a walk of its MIR, by hand, with a branch. Where there is a key the slice is looked into, the element is taken out of the row, copied,
+-- and put back; either way the result is the rules' next key (`exits`).
 use mathlib.Core.Path.{_≡_, refl, sym}
 use Prim.Native.Nat.{ℕ, _<_, _^_, _*_}
 use native.Mathlib.Omega.{arith}
@@ -44,6 +43,7 @@ use Rattle.rules.specs.declared.Key.{Key}
 use Rattle.rules.specs.declared.Next.{Next}
 use Rattle.rules.specs.Clock.{nextOf}
 use Rattle.keys.proofs.Laws.{noKey, someNext, noNext, next-some, next-none}
+use Rattle.keys.proofs.HandWalks.{machN}
 use Rattle.rules.proofs.Key as T
 use Rattle.rules.proofs.Key.Laws as T′
 use Rattle.rules.proofs.Next as N
@@ -57,9 +57,6 @@ use Rattle.keys.proofs.next_key.Code.Mir as body
 abbrev stayed : Stays (f.ended .signature .params) (f.ended .kept)
 stayed = (stay-none-slice (0 ∷ []) tt (plain (λ _. T.the-row)) yes, (stay-none (λ _. usize) yes, tt))
 
-abbrev machN : Next → Val
-machN r = LL.tuple-val N.the-type N′.the-laws (N.the-type .to r)
-
 -- the result's relation, from the bounds of its numbers
 madeN : (r : Next) → r .step < 2 ^ 64 → r .byte < 2 ^ 8 → Is N.the-row r (machN r ∷ [])
 madeN r s b = LL.owes N.the-type N′.the-laws r (refl, ((refl, s), ((refl, b), tt)))
@@ -70,7 +67,7 @@ module _ {M : Type 1} (𝓤 : URA M) (H : Heap 𝓤) (A : Atoms 𝓤) (W : Given
   elem = getD ys i noKey
 
   abbrev mach : Val
-  mach = LL.tuple-val T.the-type T′.the-laws (T.the-type .to elem)
+  mach = LL.val T.the-type T′.the-laws elem
 
   abbrev x : RefT (List Key) × (ℕ × Unit {0})
   x = (record { ptr = (b, o); name = γ; now = ys }, (i, tt))
