@@ -31,7 +31,8 @@ begin = record { cpu = withSpace (withPaging true (zeroCpu .space)) (withRegs (w
 
 -- the stop reason after each step of a run
 pub stops : {B : Type 0} → Ran B → List ℕ
-unfolding run sizeOk registersOk bufferOk keysOk nextOf ticked dueOf step interpret bind answered decodeOf opcodeOf table extend storeAll storeEvents translateBy paged readBy hit serves walk loadN storeN dirAt tabAt allows bit mark markFor markEvents pageFault has place fits afterWalk walkEvents
+unfolding run sizeOk registersOk bufferOk keysOk nextOf ticked dueOf step interpret bind answered decodeOf opcodeOf table extend storeAll storeEvents translateBy
+    paged readBy hit serves walk loadN storeN dirAt tabAt allows bit mark markFor markEvents pageFault has place fits afterWalk walkEvents
 stops r = map (λ t. stopNumber (t .state .cpu .stop)) (r .steps)
 
 -- the first step makes a store of demand 3's kind

@@ -31,7 +31,8 @@ timer-bounds : (t : Clock) (left : ℕ) → (beforeTimer t left ≤ left) × ((t
 unfolding beforeTimer
 timer-bounds t left = go (eqb (t .timeout) 0) refl
   where
-    go : (b : Bool) → eqb (t .timeout) 0 ≡ b → ((if b then left else least (t .timeout - t .timer) left) ≤ left) × ((t .timeout ≡ 0 → ⊥) → (if b then left else least (t .timeout - t .timer) left) ≤ t .timeout - t .timer)
+    go : (b : Bool) → eqb (t .timeout) 0 ≡ b → ((if b then left else least (t .timeout - t .timer) left) ≤ left)
+        × ((t .timeout ≡ 0 → ⊥) → (if b then left else least (t .timeout - t .timer) left) ≤ t .timeout - t .timer)
     go true e = (omega arith, λ n. absurd (n (eqb-true _ _ e)))
     go false e = (least-bounds _ left .1, λ _. least-bounds _ left .0)
 

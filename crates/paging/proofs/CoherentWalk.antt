@@ -10,7 +10,8 @@ use Rattle.memory.specs.Memory.{loadN}
 use Rattle.paging.specs.declared.Access.{Access}
 use Rattle.paging.specs.declared.Access.the-variants.{Fetch, Read, Write}
 use Rattle.paging.specs.Event.{Event, walked}
-use Rattle.paging.specs.Walk.{present, writable, forUser, accessed, dirty, mark, markFor, markEvents, dirAt, tabAt, userOk, writeOk, allows, Found, fault, found, Walked, walkFrame, walkTable, walkBelow, walkDir, walk}
+use Rattle.paging.specs.Walk.{present, writable, forUser, accessed, dirty, mark, markFor, markEvents, dirAt, tabAt, userOk, writeOk, allows}
+use Rattle.paging.specs.Walk.{Found, fault, found, Walked, walkFrame, walkTable, walkBelow, walkDir, walk}
 use Rattle.word.proofs.BoolLaws.{both}
 use Rattle.paging.proofs.TableWord.{is-P, is-W, is-U, is-A, mark-A, mark-D, flag-kept, MarkedMemory, unmarked, marked-twice, mark-marks, mark-sets}
 use Rattle.paging.proofs.Coherent.{CoherentEntry, dir-aligned, tab-aligned, tab-kept}

@@ -68,5 +68,15 @@ pub served-walk : {m : List ℕ} {pdir : ℕ} (e : Entry) (h : Words) (k : Acces
 unfolding walk walkDir walkBelow walkTable walkFrame answerOf
 served-walk {m} {pdir} e h k user c s =
     let M = c .maps in
-    rw (← c .dir-is, M .dir-present, mark-again mark-A m (h .dir) (M .dir-accessed), M .dir-inside, ← c .tab-is, served-allowed e k user M s, served-marked m (h .tab) e k user M s, M .tab-inside, M .frame-is)
+    rw (
+      ← c .dir-is,
+      M .dir-present,
+      mark-again mark-A m (h .dir) (M .dir-accessed),
+      M .dir-inside,
+      ← c .tab-is,
+      served-allowed e k user M s,
+      served-marked m (h .tab) e k user M s,
+      M .tab-inside,
+      M .frame-is,
+    )
     (record { mem = refl; answer = λ q. refl })

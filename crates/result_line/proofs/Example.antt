@@ -31,7 +31,8 @@ p1-bytes =
 
 -- the load, the run and the bytes, computed as one
 pub p1-line : programLine p1-file ≡ p1-bytes
-unfolding extend loadN sizeOk table opcodeOf decodeOf isWrite direct translateBy readBy bufferOk nextOf ticked dueOf bind storeAll storeEvents answered interpret step registersOk keysOk run answerBy loadAnswer load stopLine digits programLine
+unfolding extend loadN sizeOk table opcodeOf decodeOf isWrite direct translateBy readBy bufferOk nextOf ticked dueOf bind storeAll storeEvents answered interpret
+    step registersOk keysOk run answerBy loadAnswer load stopLine digits programLine
 p1-line = refl
 
 -- "refused 7"

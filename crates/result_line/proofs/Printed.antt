@@ -60,7 +60,8 @@ module _ (file m con : List ℕ) {line : List ℕ} {r : ℕ} where
   shown-refused {l} {n} p q z s = subst (λ (t : List ℕ). Shows t line r) (refused-by l con q z ∙ ap (λ (k : Loaded). loadedLine k con) p) s
 
   pub shown-ran : {l : Loaded} {n : ℕ} {t : RunResult} {m′ con′ : List ℕ} → l ≡ load file m → n ≡ loadNumber (l .answer) → n ≡ 0
-      → RunsAs (unpacked []) 100000 (l .machine) (l .mem) con t m′ con′ → Shows (stopLine (stopNumber (t .machine .cpu .stop)) (t .steps) (t .machine .cpu .regs)) line r → Shows (lineOf file m con) line r
+      → RunsAs (unpacked []) 100000 (l .machine) (l .mem) con t m′ con′
+      → Shows (stopLine (stopNumber (t .machine .cpu .stop)) (t .steps) (t .machine .cpu .regs)) line r → Shows (lineOf file m con) line r
   unfolding lineOf
   shown-ran {l} {n} {t} {m′} {con′} p q z w s =
       let seen : viewOf (l .machine) (l .mem) con ≡ startOf l con = subst (λ (k : Loaded). viewOf (k .machine) (k .mem) con ≡ startOf k con) (sym p) (started file m con) in

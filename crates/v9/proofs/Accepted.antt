@@ -36,7 +36,8 @@ module _ (size : ℕ) (c : Cpu) where
   count-below r =
       ltb-true _ _
       (both
-      (eqb (c .regs .pc % 4) 0 && eqb (c .system .ivec % 4) 0 && eqb (c .regs .sp % 8) 0 && eqb (c .system .usp % 8) 0 && eqb (c .system .ksp % 8) 0 && eqb (c .space .pdir % 4096) 0 && ltb (c .space .pdir) size)
+      (eqb (c .regs .pc % 4) 0 && eqb (c .system .ivec % 4) 0 && eqb (c .regs .sp % 8) 0 && eqb (c .system .usp % 8) 0
+      && eqb (c .system .ksp % 8) 0 && eqb (c .space .pdir % 4096) 0 && ltb (c .space .pdir) size)
       _ r .1)
 
 -- a record, memory of `size` bytes and a budget that no refusal is given for

@@ -11,7 +11,8 @@ use Rattle.rules.specs.Step.{State}
 use Rattle.rules.specs.Load.{Loaded, load}
 use Rattle.worked.specs.Start.{bytesOfAll, zeros}
 use Rattle.worked.specs.Opened.{ranBy}
-use Rattle.worked.specs.Line.{Found, found, Fact, answer, steps, a, b, c, sp, pc, count, usp, ksp, ivec, pdir, paging, vadr, timer, timeout, kbchar, taken, user, iena, waiting, stop, written, _is_, All}
+use Rattle.worked.specs.Line.{Found, found, Fact, _is_, All, answer, steps, a, b, c, sp, pc, count}
+use Rattle.worked.specs.Line.{usp, ksp, ivec, pdir, paging, vadr, timer, timeout, kbchar, taken, user, iena, waiting, stop, written}
 use Rattle.worked.specs.Edge.{Edge, _gives_, Edges, end, _and_}
 
 -- "P1 and HALT, entry 0, bss 0, data start 12"

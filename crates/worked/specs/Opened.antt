@@ -18,7 +18,9 @@ use Rattle.rules.specs.Run.{Ran, registersOk, keysOk, run}
 module _ {B : Type 0} (tr : Translator B) where
   -- one step
   unfoldable pub stepped : List Key → State B → Stepped B
-  unfolding extend quotient remainder shiftLeft shiftRight shiftRightUnsigned shiftCount lessSigned loadN storeN table opcodeOf decodeOf pageFault bit mark markFor markEvents dirAt tabAt allows walk serves hit has place fits afterWalk walkEvents direct paged translateBy readBy holds nextOf ticked dueOf bind storeAll storeEvents answered interpret step
+  unfolding extend quotient remainder shiftLeft shiftRight shiftRightUnsigned shiftCount lessSigned loadN storeN table opcodeOf decodeOf
+      pageFault bit mark markFor markEvents dirAt tabAt allows walk serves hit has place fits afterWalk walkEvents direct
+      paged translateBy readBy holds nextOf ticked dueOf bind storeAll storeEvents answered interpret step
   stepped ks s = step tr ks s
 
   -- a run

@@ -7,7 +7,8 @@ use Rattle.paging.specs.declared.Entry.{Entry}
 use Rattle.rules.specs.declared.Cpu.{Cpu}
 use Rattle.rules.specs.declared.Key.{Key}
 use Rattle.rules.specs.declared.Stop.{Stop}
-use Rattle.rules.specs.Record.{withB, withC, withSp, withPc, withCount, withRegs, withClock, withPdir, withPaging, withSpace, withSystem, withStop, withWritten, withTimer, withTimeout, withTaken, withUsp, withKsp, withIvec, withUser, withIena, withWaiting}
+use Rattle.rules.specs.Record.{withB, withC, withSp, withPc, withCount, withRegs, withClock, withPdir, withPaging, withSpace}
+use Rattle.rules.specs.Record.{withSystem, withStop, withWritten, withTimer, withTimeout, withTaken, withUsp, withKsp, withIvec, withUser, withIena, withWaiting}
 use Rattle.rules.specs.Load.{freshCpu}
 
 -- ---- the record: fresh in 4,096 bytes with entry 0, and then with one part put in place

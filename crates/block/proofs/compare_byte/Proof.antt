@@ -29,14 +29,16 @@ load1-requires-2 c κs =
 
 same-length-5 : tie.Need-same-length-5
 same-length-5 c =
-    let second = c .before .before .before .before .before .before .before .before .before .before .before .translate2 in
-    let first = c .before .before .before .before .before .before .before .before .before .before .before .before .before .before .before .before .before .before .before .before .before .before .before .before .translate in
+    let at-second = c .before .before .before .before .before .before .before .before .before .before .before in
+    let second = at-second .translate2 in
+    let first = at-second .before .before .before .before .before .before .before .before .before .before .before .before .before .translate in
     omega (arith, second .kept .0, first .kept .0)
 
 same-length-6 : tie.Need-same-length-6
 same-length-6 c =
-    let second = c .before .before .before .before .before .before .before .before .before .before .before .translate2 in
-    let first = c .before .before .before .before .before .before .before .before .before .before .before .before .before .before .before .before .before .before .before .before .before .before .before .before .translate in
+    let at-second = c .before .before .before .before .before .before .before .before .before .before .before in
+    let second = at-second .translate2 in
+    let first = at-second .before .before .before .before .before .before .before .before .before .before .before .before .before .translate in
     omega (arith, second .kept .1, first .kept .1)
 
 returns-3 : tie.Need-returns-3

@@ -29,14 +29,16 @@ store-requires c κs =
 
 same-length-5 : tie.Need-same-length-5
 same-length-5 c =
-    let second = c .before .before .before .before .before .before .before .before .before .before .before .before .before .translate2 in
-    let first = c .before .before .before .before .before .before .before .before .before .before .before .before .before .before .before .before .before .before .before .before .before .before .before .before .before .before .translate in
+    let at-second = c .before .before .before .before .before .before .before .before .before .before .before .before .before in
+    let second = at-second .translate2 in
+    let first = at-second .before .before .before .before .before .before .before .before .before .before .before .before .before .translate in
     omega (arith, c .before .before .before .before .store .kept .0, second .kept .0, first .kept .0)
 
 same-length-6 : tie.Need-same-length-6
 same-length-6 c =
-    let second = c .before .before .before .before .before .before .before .before .before .before .before .before .before .translate2 in
-    let first = c .before .before .before .before .before .before .before .before .before .before .before .before .before .before .before .before .before .before .before .before .before .before .before .before .before .before .translate in
+    let at-second = c .before .before .before .before .before .before .before .before .before .before .before .before .before in
+    let second = at-second .translate2 in
+    let first = at-second .before .before .before .before .before .before .before .before .before .before .before .before .before .translate in
     omega (arith, second .kept .1, first .kept .1)
 
 returns-3 : tie.Need-returns-3
@@ -46,7 +48,8 @@ returns-3 c =
     let first = at-load1 .before .before .before .before .before .before .before .before .before .translate in
     let second = c .before .before .before .before .before .before .before .before .before .before .before .before .before .translate2 in
     executes-read (first .ensures) (at-load1 .before .before .before .p .given .1) (at-load1 .load1 .ensures)
-    (executes-written (second .ensures) (c .before .before .before .before .before .before .before .q .given .1) (rw (c .fine .ensures, c .before .again-both .ensures)) (c .before .before .before .before .store .ensures))
+    (executes-written (second .ensures) (c .before .before .before .before .before .before .before .q .given .1) (rw (c .fine .ensures, c .before .again-both .ensures))
+    (c .before .before .before .before .store .ensures))
 
 pub copy-byte-spec : {M : Type 1} → statement M
 copy-byte-spec =
