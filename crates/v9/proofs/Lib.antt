@@ -3,3 +3,8 @@ pub mod Refused
 pub mod UnderWay
 pub mod Packed
 pub mod Again
+pub mod HandWalks
+mod KeyCalls
+mod StageCalls
+mod Turn
+pub mod RunCall

@@ -74,7 +74,8 @@ module _ {M : Type 1} (𝓤 : URA M) (H : Heap 𝓤) (A : Atoms 𝓤) (mem : Mem
   rises-of : (ok : Bool) (l s : ℕ) (r : Bool) → ent 𝓤 (ensured 𝓤 H A rises.ended (rises.clauses 𝓤 H A mem run) tt (ok, (l, (s, tt))) tt r) (fact 𝓤 (r ≡ (ok && leb l s)))
   rises-of ok l s r = exE 𝓤 _ (λ ws. snd∗ 𝓤 (sem 𝓤 H A (lasts rises.ended tt (ok, (l, (s, tt))) ws)) (fact 𝓤 (r ≡ (ok && leb l s))))
 
-module _ {M : Type 1} (𝓤 : URA M) (H : Heap 𝓤) (A : Atoms 𝓤) (W : Given 𝓤 H A) (mem : Memory → SProp 𝓤) (run : Routine → Fun 𝓤) (κ : Lft) (q : Share) (b o : ℕ) (γ : GName) (ys : List Key) where
+module _ {M : Type 1} (𝓤 : URA M) (H : Heap 𝓤) (A : Atoms 𝓤) (W : Given 𝓤 H A) (mem : Memory → SProp 𝓤) (run : Routine → Fun 𝓤) (κ : Lft) (q : Share) (b o : ℕ)
+    (γ : GName) (ys : List Key) where
   abbrev elem : ℕ → Key
   elem i = getD ys i noKey
 
@@ -100,7 +101,8 @@ module _ {M : Type 1} (𝓤 : URA M) (H : Heap 𝓤) (A : Atoms 𝓤) (W : Given
   to-rises ok l s = ((tt, tt, tt, (ok, (l, (s, tt))), (vbool ok ∷ [], (vint w64 l ∷ [], (vint w64 s ∷ [], tt)))), tt)
 
   goes-rises : (ok : Bool) (l s : ℕ) → l < 2 ^ 64 → s < 2 ^ 64 → ent 𝓤 (emp 𝓤) (Rises 𝓤 H A mem run .pre (to-rises ok l s))
-  goes-rises ok l s gl gs = qed W [] ∵ nothing ! $ owned ! u64 (Is u64) (uint-makes 𝓤 H A W w64) s _ (refl, gs) $ fjoin ! $ owned ! u64 (Is u64) (uint-makes 𝓤 H A W w64) l _ (refl, gl) $ fjoin ! $
+  goes-rises ok l s gl gs = qed W [] ∵ nothing ! $ owned ! u64 (Is u64) (uint-makes 𝓤 H A W w64) s _ (refl, gs) $ fjoin ! $
+      owned ! u64 (Is u64) (uint-makes 𝓤 H A W w64) l _ (refl, gl) $ fjoin ! $
       owned ! Boolean (Is Boolean) (bool-makes 𝓤 H A W) ok _ refl $ fjoin ! $ nothing ! $ join ! $ frame ! $ done !
 
   -- where a turn starts: `ok` and `last` are of the first i keys
@@ -127,9 +129,11 @@ module _ {M : Type 1} (𝓤 : URA M) (H : Heap 𝓤) (A : Atoms 𝓤) (W : Given
   module _ (q′ : Share) (l₀ l₁ l₂ l₃ l₄ l₅ l₆ l₇ l₈ : ℕ) where
     -- what is owned where a turn starts
     abbrev At : Turn → List (Item 𝓤)
-    At t = ‵ (row T.the-row q′ ys b o) ∷ ‵ (fobor κ q (arr-parts (shares T.the-row) (length ys) .part q′ ys b o)) ∷ ‵ (fshr-bor κ (λ s. arr-parts (shares T.the-row) (length ys) .part s ys b o))
+    At t = ‵ (row T.the-row q′ ys b o) ∷ ‵ (fobor κ q (arr-parts (shares T.the-row) (length ys) .part q′ ys b o)) ∷
+        ‵ (fshr-bor κ (λ s. arr-parts (shares T.the-row) (length ys) .part s ys b o))
         ∷ ‵ (fres γ (codedHoleys T.the-row .code (heres T.the-row ys))) ∷ ‵ (at-slice T.the-row (x .0) (at .0))
-        ∷ ‵ (froom tyPtr l₈ 0) ∷ ‵ (fdies tyPtr l₈) ∷ ‵ (froom tyBool l₇ 0) ∷ ‵ (fdies tyBool l₇) ∷ ‵ (froom word l₆ 0) ∷ ‵ (fdies word l₆) ∷ ‵ (froom word l₅ 0) ∷ ‵ (fdies word l₅)
+        ∷ ‵ (froom tyPtr l₈ 0) ∷ ‵ (fdies tyPtr l₈) ∷ ‵ (froom tyBool l₇ 0) ∷ ‵ (fdies tyBool l₇) ∷ ‵ (froom word l₆ 0) ∷ ‵ (fdies word l₆) ∷
+        ‵ (froom word l₅ 0) ∷ ‵ (fdies word l₅)
         ∷ ‵ (fat fullShare word l₄ 0 (vint w64 (t .i))) ∷ ‵ (fdies word l₄) ∷ ‵ (fat fullShare word l₃ 0 (vint w64 (t .last))) ∷ ‵ (fdies word l₃) ∷
         ‵ (fat fullShare tyBool l₂ 0 (vbool (t .ok))) ∷ ‵ (fdies tyBool l₂)
         ∷ ‵ (fat fullShare slice l₁ 0 (sliceVal (b, o) (length ys))) ∷ ‵ (fdies slice l₁) ∷ ‵ (froom tyBool l₀ 0) ∷ ‵ (fdies tyBool l₀) ∷ []
@@ -139,7 +143,8 @@ module _ {M : Type 1} (𝓤 : URA M) (H : Heap 𝓤) (A : Atoms 𝓤) (W : Given
       → ent 𝓤 (onEntry 𝓤 H A f.signature (κ, tt) (q, tt) x at) (WpFn 𝓤 H (𝓣 .C) (𝓣 .Λ) code.function (sliceVal (b, o) (length ys) ∷ []) Post)
   unfolding afterTurn
   walk 𝓣 known gn =
-      qed W ((‵ (flft κ q) ⊛ ‵ ftrue) ∷ ‵ (owns (ShrSlice (named 0) κ T.the-row ∷ []) x at) ∷ []) ∵ enter ! (𝓣 .C) (𝓣 .Λ) code.function (sliceVal (b, o) (length ys) ∷ []) _ $
+      qed W ((‵ (flft κ q) ⊛ ‵ ftrue) ∷ ‵ (owns (ShrSlice (named 0) κ T.the-row ∷ []) x at) ∷ []) ∵
+      enter ! (𝓣 .C) (𝓣 .Λ) code.function (sliceVal (b, o) (length ys) ∷ []) _ $
       alloc1 ! (λ l₀. alloc1 ! (λ l₁. alloc1 ! (λ l₂. alloc1 ! (λ l₃. alloc1 ! (λ l₄. alloc1 ! (λ l₅. alloc1 ! (λ l₆. alloc1 ! (λ l₇. alloc1 ! (λ l₈. alloc0 ! $ params1 ! $
       pass1 ! (init ! 14 refl (tt, (tt, (record { fits = gn .0 }, tt)))) $ pass0 ! $
       -- ok = true; last = 0; i = 0
@@ -148,7 +153,8 @@ module _ {M : Type 1} (𝓤 : URA M) (H : Heap 𝓤) (A : Atoms 𝓤) (W : Given
       assigns ! (of-opd ! (lit ! tt)) (from ! (stop !)) (init ! 8 refl (tt, record { fits = lit< tt })) $
       move ! (19 ∷ []) $ fsplit ! $ fsplit ! $ move ! (1 ∷ []) $ fsplit ! $ move ! (22 ∷ []) $ split ! $ move ! (3 ∷ 0 ∷ []) $
       -- [the fractured borrow; the token; true; res; the slice's fact; true; _8; …; .. ; _0; …]
-      looks-slice ! tt T.the-row (Is T.the-row) (shows 𝓤 H A T.the-row) (LL.vals T.the-type T′.the-laws) (LL.tells T.the-type T′.the-laws) (LL.copy T.the-type T′.the-copy 𝓤 H A W) ys b o (λ q′.
+      looks-slice ! tt T.the-row (Is T.the-row) (shows 𝓤 H A T.the-row) (LL.vals T.the-type T′.the-laws) (LL.tells T.the-type T′.the-laws)
+      (LL.copy T.the-type T′.the-copy 𝓤 H A W) ys b o (λ q′.
       move ! (3 ∷ []) $ drop ! $ move ! (5 ∷ []) $ drop ! $
       first ! $ blocks ! $ loops ! 𝓣 Nearer Nearer-wf (At q′ l₀ l₁ l₂ l₃ l₄ l₅ l₆ l₇ l₈) (λ t.
       -- [the row; what shuts; the fractured borrow; res; the slice's fact; _8; …; _7; …; .. ; _0; …]
@@ -171,8 +177,8 @@ module _ {M : Type 1} (𝓤 : URA M) (H : Heap 𝓤) (A : Atoms 𝓤) (W : Given
       (and-then ! (load ! (from ! (stop !)) (look ! 18 refl)) (and-then ! (load ! (from ! (stop !)) (look ! 16 refl))
       (and-then ! (load ! (from ! (stop !)) (look ! 12 refl)) (no-more !)))) (λ v.
       use1 W (later (some (λ (r : Bool). (‵ ftrue ⊛ ‵ (Boolean .own r (v ∷ []))) ⊛ raw
-      (ensured 𝓤 H A rises.ended (rises.clauses 𝓤 H A mem run) tt (t .ok, (t .last, (elem (t .i) .step, tt))) tt r)))) (id⊢ 𝓤 _) $ await ! tt $ pick
-      ! (λ r.
+      (ensured 𝓤 H A rises.ended (rises.clauses 𝓤 H A mem run) tt (t .ok, (t .last, (elem (t .i) .step, tt))) tt r)))) (id⊢ 𝓤 _) $ await ! tt $
+      pick ! (λ r.
       split ! $ move ! (1 ∷ []) $ use1 W (raw (fact 𝓤 (r ≡ (t .ok && leb (t .last) (elem (t .i) .step)))))
       (rises-of 𝓤 H A mem run (t .ok) (t .last) (elem (t .i) .step) r) $ heard ! (r ≡ (t .ok && leb (t .last) (elem (t .i) .step)))
       (λ said. split ! $ drop ! $
@@ -184,14 +190,15 @@ module _ {M : Type 1} (𝓤 : URA M) (H : Heap 𝓤) (A : Atoms 𝓤) (W : Given
       (store ! 13 refl (tt, record { fits = next-fits t (less t e) })) $
       forget ! 5 refl $ forget ! 7 refl $ forget ! 9 refl $ forget ! 11 refl $
       again ! Nearer (At q′ l₀ l₁ l₂ l₃ l₄ l₅ l₆ l₇ l₈) t (next t (less t e) r said (step-fits (t .i) g)) (nearer t (less t e))))))))
-      (λ e. rewrite ! 7 (λ (c : Bool). ‵ (fat fullShare tyBool l₇ 0 (vbool c))) e refl $ leaves-loop ! (load ! (from ! (stop !)) (look ! 7 refl)) $ exec ! (𝓣 .C) (𝓣 .Λ) _ body.t-5 (atRet _ Post) $
+      (λ e. rewrite ! 7 (λ (c : Bool). ‵ (fat fullShare tyBool l₇ 0 (vbool c))) e refl $ leaves-loop ! (load ! (from ! (stop !)) (look ! 7 refl)) $
+      exec ! (𝓣 .C) (𝓣 .Λ) _ body.t-5 (atRet _ Post) $
       -- after the loop: the result
       assigns ! (of-opd ! (load ! (from ! (stop !)) (look ! 17 refl))) (from ! (stop !)) (init ! 21 refl (tt, tt)) $ shuts-slice ! tt T.the-row q′ ys b o $
       -- [the token; the fractured borrow; res; the slice's fact; _8; …; .. ; _0; …]
       returns ! (look ! 20 refl) $ forget ! 6 refl $ forget ! 8 refl $ forget ! 12 refl $ forget ! 14 refl $ forget ! 16 refl $ forget ! 18 refl $ forget ! 20 refl $
-      move ! (20 ∷ 21 ∷ []) $ free1 ! $ move ! (18 ∷ 19 ∷ []) $ free1 ! $ move ! (16 ∷ 17 ∷ []) $ free1 ! $ move ! (14 ∷ 15 ∷ []) $ free1 ! $ move !
-      (12 ∷ 13 ∷ []) $ free1 ! $ move ! (10 ∷ 11 ∷ []) $ free1 ! $ move ! (8 ∷ 9 ∷ []) $ free1 ! $ move ! (6 ∷ 7 ∷ []) $ free1 ! $ move !
-      (4 ∷ 5 ∷ []) $ free1 ! $ free0 ! $
+      move ! (20 ∷ 21 ∷ []) $ free1 ! $ move ! (18 ∷ 19 ∷ []) $ free1 ! $ move ! (16 ∷ 17 ∷ []) $ free1 ! $ move ! (14 ∷ 15 ∷ []) $ free1 ! $
+      move ! (12 ∷ 13 ∷ []) $ free1 ! $ move ! (10 ∷ 11 ∷ []) $ free1 ! $ move ! (8 ∷ 9 ∷ []) $ free1 ! $ move ! (6 ∷ 7 ∷ []) $ free1 ! $
+      move ! (4 ∷ 5 ∷ []) $ free1 ! $ free0 ! $
       move ! (2 ∷ 1 ∷ []) $ fjoin ! $ move ! (2 ∷ 0 ∷ []) $ fjoin ! $ keep ! (1 ∷ 0 ∷ []) $ by !
       (exits (t .ok) (sym (rise-end ys (t .i) (t .ok) (t .last) (ltb-false (t .i) (length ys) e)) ∙ t .same))))
       (record { ok = true; last = 0; i = 0; last-fits = lit< tt; same = refl })))))))))))
@@ -226,7 +233,8 @@ module _ {M : Type 1} (𝓤 : URA M) (H : Heap 𝓤) (A : Atoms 𝓤) (W : Given
 module _ {M : Type 1} (𝓤 : URA M) (H : Heap 𝓤) (A : Atoms 𝓤) (W : Given 𝓤 H A) (mem : Memory → SProp 𝓤) (run : Routine → Fun 𝓤) (𝓣 : Tables 𝓤 H)
     (known : Triple 𝓤 (𝓣 .C #keys·rises) (Rises 𝓤 H A mem run)) where
   walks : Walks 𝓤 H A f.ended stayed (WpFn 𝓤 H (𝓣 .C) (𝓣 .Λ) code.function) (f.clauses 𝓤 H A mem run)
-  walks = walked 𝓤 H A f.ended stayed (f.clauses 𝓤 H A mem run) (WpFn 𝓤 H (𝓣 .C) (𝓣 .Λ) code.function) (λ κs. (slice-vals, tt)) (λ κs. (shr-slice-tells (named 0) (κs .0) T.the-row, tt))
+  walks = walked 𝓤 H A f.ended stayed (f.clauses 𝓤 H A mem run) (WpFn 𝓤 H (𝓣 .C) (𝓣 .Λ) code.function) (λ κs. (slice-vals, tt))
+      (λ κs. (shr-slice-tells (named 0) (κs .0) T.the-row, tt))
       (λ κs qs bounds a g are. via 𝓤 _ (fst∗ 𝓤 _ (emp 𝓤)) (walk 𝓤 H A W mem run (κs .0) (qs .0) (a .0 .ptr .0) (a .0 .ptr .1) (a .0 .name) (a .0 .now) 𝓣 known (are .0 .0 .1)))
 
   meets : Meets 𝓤 H A f.signature (WpFn 𝓤 H (𝓣 .C) (𝓣 .Λ) code.function) (f.spec 𝓤 H A mem run)
