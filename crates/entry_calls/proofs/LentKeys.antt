@@ -1,4 +1,4 @@
--- The keys of a local array: the first n of them are lent as a slice, and the array is taken back. Assumes nothing.
+-- The keys of a local array: the first n of them are lent as a slice, and the array is taken back.
 use mathlib.Core.Path.{_≡_, refl, sym}
 use Prim.Native.Nat.{ℕ, _≤_}
 use mathlib.Core.List.{List, [], _∷_, _++_, map}
@@ -68,7 +68,9 @@ module _ {M : Type 1} (𝓤 : URA M) (H : Heap 𝓤) (A : Atoms 𝓤) (W : Given
       use1 W (later (some (λ (γ : GName). ‵ (ShrSlice ℓ κ K.the-row .own (first γ) (sliceVal (b, 0) (length (take n ks)) ∷ [])) ⊛ ‵ (flent κ (partsF K.the-row (take n ks) b 0)))))
       (lends-shr-slice 𝓤 H A W K.the-row ℓ κ fullShare (take n ks) b 0 (room-take K.the-row 64 n ks len (lit< tt, lit< tt))) $ await ! tt $ pick ! (λ γ. split ! $
       rewrite ! 0 (λ (m : ℕ). ‵ (ShrSlice ℓ κ K.the-row .own (first γ) (sliceVal (b, 0) m ∷ []))) (length-take-le n ks few-of) refl $
-      move ! (1 ∷ 2 ∷ []) $ fjoin ! $ at-once ! $ show ! (λ (δ : GName). sep 𝓤 (sem 𝓤 H A (ShrSlice ℓ κ K.the-row .own (first δ) (sliceVal (b, 0) n ∷ []))) (sem 𝓤 H A (Kept κ))) γ $ move ! (1 ∷ 0 ∷ []) $ done !)
+      move ! (1 ∷ 2 ∷ []) $ fjoin ! $ at-once ! $ show ! (λ (δ : GName). sep 𝓤 (sem 𝓤 H A (ShrSlice ℓ κ K.the-row .own (first δ) (sliceVal (b, 0) n ∷ [])))
+      (sem 𝓤 H A (Kept κ))) γ $
+      move ! (1 ∷ 0 ∷ []) $ done !)
 
   pub keys-back : (κ : Lft) → ent 𝓤 (sep 𝓤 (A .dead κ) (sem 𝓤 H A (Kept κ))) (H .⇛ (H .at fullShare keysTy b 0 (machKeys ks)))
   unfolding partOf
@@ -79,5 +81,6 @@ module _ {M : Type 1} (𝓤 : URA M) (H : Heap 𝓤) (A : Atoms 𝓤) (W : Given
       rewrite ! 0 (λ (xs : List Key). ‵ (cells (mem K.the-row) xs b 0)) (take-append-drop n ks) refl $
       rewrite ! 0 (λ (F : Fml). ‵ F) (sym (parts-cells K.the-row fullShare ks b 0)) refl $ feqI ! ℕ (length ks) 64 len $ fjoin ! $
       use1 W (‵ (partAt (Array K.the-row 64) fullShare ks b 0)) (array-whole 𝓤 H A W K.the-row fullShare 64 ks b 0) $ fpick ! (λ vs. fsplit ! $
-      spelt ! (Array K.the-row 64) (Is (Array K.the-row 64)) (shows 𝓤 H A (Array K.the-row 64)) (array-vals (LL.vals K.the-type K′.the-laws)) (array-tells K.the-row (LL.vals K.the-type K′.the-laws) (LL.tells K.the-type K′.the-laws) 64) fullShare ks vs b 0 $
+      spelt ! (Array K.the-row 64) (Is (Array K.the-row 64)) (shows 𝓤 H A (Array K.the-row 64)) (array-vals (LL.vals K.the-type K′.the-laws))
+      (array-tells K.the-row (LL.vals K.the-type K′.the-laws) (LL.tells K.the-type K′.the-laws) 64) fullShare ks vs b 0 $
       use1 W (‵ (fat fullShare keysTy b 0 (machKeys ks))) (W .laws .raw-at fullShare keysTy b 0 (machKeys ks)) $ at-once ! $ keep ! (0 ∷ []) $ done !)
