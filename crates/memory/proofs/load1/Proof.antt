@@ -1,4 +1,4 @@
--- `memory::load1` meets its contract. Assumes nothing.
+-- A load of one byte is that byte.
 use native.Mathlib.Omega.{arith}
 use borrow.Author.Needs.{needs}
 use Rattle.memory.specs.Memory.{loadN}

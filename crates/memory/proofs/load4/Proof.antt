@@ -1,4 +1,4 @@
--- `memory::load4` meets its contract. Assumes nothing.
+-- A load of 4 bytes is one of 2 and one of 2 above it (`load-split`).
 use native.Mathlib.Omega.{arith}
 use borrow.Author.Needs.{needs}
 use denote.Ref.{now}
@@ -7,7 +7,9 @@ use Rattle.memory.proofs.load4.Statement.{statement}
 use Rattle.memory.proofs.load4.Tie as tie
 
 returns : tie.Need-returns
-returns c = let a = c .before .before .before .args in omega (arith, load-split 2 2 (now (a .mem)) (a .at))
+returns c =
+    let given = c .before .before .before .args in
+    omega (arith, load-split 2 2 (now (given .mem)) (given .at))
 
 pub load4-spec : {M : Type 1} → statement M
 load4-spec =

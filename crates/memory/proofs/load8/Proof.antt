@@ -1,4 +1,4 @@
--- `memory::load8` meets its contract. Assumes nothing.
+-- A load of 8 bytes is one of 4 and one of 4 above it (`load-split`).
 use Rattle.memory.proofs.Laws.{load-split}
 use denote.Ref.{now}
 use native.Mathlib.Omega.{arith}
@@ -7,7 +7,9 @@ use Rattle.memory.proofs.load8.Statement.{statement}
 use Rattle.memory.proofs.load8.Tie as tie
 
 returns : tie.Need-returns
-returns c = let a = c .before .before .before .args in omega (arith, load-split 4 4 (now (a .mem)) (a .at))
+returns c =
+    let given = c .before .before .before .args in
+    omega (arith, load-split 4 4 (now (given .mem)) (given .at))
 
 pub load8-spec : {M : Type 1} → statement M
 load8-spec =

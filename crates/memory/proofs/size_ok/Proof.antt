@@ -1,4 +1,4 @@
--- `memory::size_ok` meets its contract. Assumes nothing.
+-- The test is the definition, opened.
 use mathlib.Core.Path.{refl}
 use Rattle.memory.specs.Memory.{sizeOk}
 use Rattle.memory.proofs.size_ok.Statement.{statement}

@@ -1,4 +1,4 @@
--- `memory::store1` meets its contract. Assumes nothing.
+-- A store of one byte sets it to the value's low eight bits.
 use mathlib.Core.Path.{refl}
 use borrow.Author.Needs.{needs}
 use Rattle.memory.specs.Memory.{storeN}

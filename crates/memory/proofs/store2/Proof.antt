@@ -1,4 +1,4 @@
--- `memory::store2` meets its contract. Assumes nothing.
+-- A store of 2 bytes is one of 1 and, of the rest of the value, one of 1 above it (`store-split`).
 use borrow.Author.Needs.{needs}
 use denote.Ref.{now}
 use Rattle.memory.proofs.Laws.{store-split}
@@ -7,8 +7,8 @@ use Rattle.memory.proofs.store2.Tie as tie
 
 returns : tie.Need-returns
 returns c =
-    let a = c .before .before .before .before .before .before .before .before .before .args in
-    cc (store-split 1 1 (now (a .mem)) (a .at) (a .v))
+    let given = c .before .before .before .before .before .before .before .before .before .args in
+    cc (store-split 1 1 (now (given .mem)) (given .at) (given .v))
 
 pub store2-spec : {M : Type 1} → statement M
 store2-spec =

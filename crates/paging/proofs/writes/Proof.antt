@@ -1,4 +1,4 @@
--- `paging::writes` meets its contract. Assumes nothing.
+-- The match tells the kind of access, and the arm is the definition's at that kind.
 use mathlib.Core.Path.{sym, ap}
 use borrow.Author.Needs.{needs}
 use Rattle.paging.specs.Walk.{isWrite}

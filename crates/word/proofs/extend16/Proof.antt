@@ -1,4 +1,4 @@
--- `word::extend16` meets its contract. Assumes nothing.
+-- Below 2^15 the number is its own extension (`extend-clear`), from there on the upper sixteen bits are added (`extend-set`).
 use native.Mathlib.Omega.{arith}
 use borrow.Author.Needs.{needs}
 use Rattle.word.proofs.Extension.{extend-clear, extend-set}

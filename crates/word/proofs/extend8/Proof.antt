@@ -1,4 +1,4 @@
--- `word::extend8` meets its contract. Assumes nothing.
+-- Below 2^7 the byte is its own extension (`extend-clear`), from there on the upper 24 bits are added (`extend-set`).
 use native.Mathlib.Omega.{arith}
 use borrow.Author.Needs.{needs}
 use Rattle.word.proofs.Extension.{extend-clear, extend-set}

@@ -1,4 +1,4 @@
--- `word::immediate` meets its contract. Assumes nothing.
+-- Below 2^23 the field is its own extension (`extend-clear`), from there on the upper eight bits are added (`extend-set`).
 use native.Mathlib.Omega.{arith}
 use borrow.Author.Needs.{needs}
 use Rattle.word.proofs.Extension.{extend-clear, extend-set}

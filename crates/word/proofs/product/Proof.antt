@@ -1,4 +1,4 @@
--- `word::product` meets its contract. Assumes nothing.
+-- A product of two words has at most 64 bits (`bits-product`), so that u64 holds it and its low 32 bits are the rule's.
 use borrow.Author.Needs.{needs}
 use Rattle.word.proofs.Bounds.{bits-product}
 use Rattle.word.proofs.product.Statement.{statement}

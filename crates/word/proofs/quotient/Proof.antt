@@ -1,4 +1,5 @@
--- `word::quotient` meets its contract. Assumes nothing.
+-- -2^31 by -1 is tested for and computed apart (`quotient-least`); any other quotient of signed readings fits an i32 (`quotient-fits`), and its word is
+-- the rule's (`signed-result`).
 use borrow.Author.Needs.{needs}
 use lib.Signed.{quotZ}
 use Rattle.word.specs.Word.{quotient}
@@ -9,18 +10,20 @@ use Rattle.word.proofs.quotient.Tie as tie
 
 div-unsigned : tie.Need-div-unsigned
 div-unsigned c =
-    let t = c .before .before in let s = t .before in
-    division-safe (s .fits .x) (s .fits .y) (c .before .signed .ensures) (c .signed2 .ensures) (s .pre) (failed (t .if1 .left))
+    let fits = c .before .before .before .fits in
+    let pre = c .before .before .before .pre in
+    division-safe (fits .x) (fits .y) (c .before .signed .ensures) (c .signed2 .ensures) pre (failed (c .before .before .if1 .left))
 
 returns : tie.Need-returns
-returns c = let a = c .before .args in passed quotient (a .x) (a .y) quotient-least (c .if1 .taken)
+returns c = passed quotient (c .before .args .x) (c .before .args .y) quotient-least (c .if1 .taken)
 
 returns-2 : tie.Need-returns-2
 unfolding quotient
 returns-2 c =
-    let t = c .before .before .before in let f = t .before .fits in
-    signed-result (f .x) (f .y) (c .before .before .signed .ensures) (c .before .signed2 .ensures) quotZ
-    (quotient-fits (f .x) (f .y) (failed (t .if1 .left))) (c .unsigned .ensures)
+    let fits = c .before .before .before .before .fits in
+    let if1 = c .before .before .before .if1 in
+    signed-result (fits .x) (fits .y) (c .before .before .signed .ensures) (c .before .signed2 .ensures) quotZ
+    (quotient-fits (fits .x) (fits .y) (failed (if1 .left))) (c .unsigned .ensures)
 
 pub quotient-spec : {M : Type 1} → statement M
 quotient-spec =

@@ -1,4 +1,5 @@
--- `word::remainder` meets its contract. Assumes nothing.
+-- -2^31 by -1 is tested for and computed apart (`remainder-least`); any other remainder of signed readings fits an i32 (`remainder-fits`), and its word is
+-- the rule's (`signed-result`).
 use borrow.Author.Needs.{needs}
 use lib.Signed.{remZ}
 use Rattle.word.specs.Word.{remainder}
@@ -9,18 +10,20 @@ use Rattle.word.proofs.remainder.Tie as tie
 
 rem-unsigned : tie.Need-rem-unsigned
 rem-unsigned c =
-    let t = c .before .before in let s = t .before in
-    division-safe (s .fits .x) (s .fits .y) (c .before .signed .ensures) (c .signed2 .ensures) (s .pre) (failed (t .if1 .left))
+    let fits = c .before .before .before .fits in
+    let pre = c .before .before .before .pre in
+    division-safe (fits .x) (fits .y) (c .before .signed .ensures) (c .signed2 .ensures) pre (failed (c .before .before .if1 .left))
 
 returns : tie.Need-returns
-returns c = let a = c .before .args in passed remainder (a .x) (a .y) remainder-least (c .if1 .taken)
+returns c = passed remainder (c .before .args .x) (c .before .args .y) remainder-least (c .if1 .taken)
 
 returns-2 : tie.Need-returns-2
 unfolding remainder
 returns-2 c =
-    let t = c .before .before .before in let f = t .before .fits in
-    signed-result (f .x) (f .y) (c .before .before .signed .ensures) (c .before .signed2 .ensures) remZ
-    (remainder-fits (f .x) (t .before .args .y)) (c .unsigned .ensures)
+    let given = c .before .before .before .before .args in
+    let fits = c .before .before .before .before .fits in
+    signed-result (fits .x) (fits .y) (c .before .before .signed .ensures) (c .before .signed2 .ensures) remZ (remainder-fits (fits .x) (given .y))
+    (c .unsigned .ensures)
 
 pub remainder-spec : {M : Type 1} → statement M
 remainder-spec =

@@ -1,4 +1,3 @@
--- `word::shift_left` meets its contract. Assumes nothing.
 use borrow.Author.Needs.{needs}
 use Rattle.word.specs.Word.{shiftLeft, shiftCount}
 use Rattle.word.proofs.shift_left.Statement.{statement}

@@ -1,4 +1,4 @@
--- `word::shift_right` meets its contract. Assumes nothing.
+-- The i32 is shifted by a count below 32, stays in its range (`shift-fits`), and its word is the rule's (`signed-result`).
 use Prim.Native.Nat.{_^_, _%_}
 use borrow.Author.Needs.{needs}
 use lib.IntN.{ℤ}
@@ -15,8 +15,10 @@ shr-unsigned c = search needs
 returns : tie.Need-returns
 unfolding shiftRight shiftCount
 returns c =
-    let f = c .before .before .fits .x in let e = c .before .signed .ensures in let m = 2 ^ (c .before .before .args .count % 32) in
-    signed-result f f e e (λ (z d : ℤ). shrZ z m) (shift-fits m f) (c .unsigned .ensures)
+    let fits = c .before .before .fits .x in
+    let signed = c .before .signed .ensures in
+    let power = 2 ^ (c .before .before .args .count % 32) in
+    signed-result fits fits signed signed (λ (z d : ℤ). shrZ z power) (shift-fits power fits) (c .unsigned .ensures)
 
 pub shift-right-spec : {M : Type 1} → statement M
 shift-right-spec =

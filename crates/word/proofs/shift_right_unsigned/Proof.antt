@@ -1,4 +1,3 @@
--- `word::shift_right_unsigned` meets its contract. Assumes nothing.
 use borrow.Author.Needs.{needs}
 use Rattle.word.specs.Word.{shiftRightUnsigned, shiftCount}
 use Rattle.word.proofs.shift_right_unsigned.Statement.{statement}

@@ -1,4 +1,4 @@
--- `word::signed` meets its contract. Assumes nothing.
+-- A word below 2^31 is cast as it is; of any other the complement is cast and complemented again, and twice complemented it is itself.
 use Prim.Native.Nat.{_-_}
 use mathlib.Core.Path.{_≡_, ap}
 use native.Mathlib.Omega.{arith}
@@ -11,8 +11,8 @@ use Rattle.word.proofs.signed.Tie as tie
 -- the complement of the complement
 returns-2 : tie.Need-returns-2
 returns-2 c =
-    let e : 4294967295 - (4294967295 - c .before .args .x) ≡ c .before .args .x = omega arith in
-    ap (toZ w32) e
+    let twice : 4294967295 - (4294967295 - c .before .args .x) ≡ c .before .args .x = omega arith in
+    ap (toZ w32) twice
 
 pub signed-spec : {M : Type 1} → statement M
 signed-spec = tie.close (tie.spec (λ c. search needs) (λ c. search needs) (λ c. search needs) returns-2)
