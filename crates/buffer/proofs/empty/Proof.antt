@@ -1,4 +1,4 @@
--- `buffer::empty` meets its contract. Assumes nothing.
+-- With the count 0 no entry is held (`held-none`), and the array is a page buffer still (`buffer-counted`).
 use native.Mathlib.Omega.{arith}
 use borrow.Author.Needs.{needs}
 use Rattle.buffer.proofs.Slots.{held-none, buffer-counted}

@@ -1,4 +1,4 @@
--- `buffer::keep` meets its contract. Assumes nothing.
+-- One law a way: in the place of the same page's entry (`keep-same`), alone where 64 are held (`keep-first`), else after the others (`keep-next`).
 use native.Mathlib.Omega.{arith}
 use lib.ListN.{length-set}
 use borrow.Author.Needs.{needs}
@@ -7,17 +7,19 @@ use Rattle.buffer.proofs.keep.Statement.{statement}
 use Rattle.buffer.proofs.keep.Tie as tie
 
 returns : tie.Need-returns
-returns c = keep-same _ _ (c .before .before .before .before .pre .0) (c .before .before .before .before .pre .1) (omega arith)
+returns c =
+    let pre = c .before .before .before .before .pre in
+    keep-same _ _ (pre .0) (pre .1) (omega arith)
 
 returns-2 : tie.Need-returns-2
 returns-2 c =
-    keep-first _ _ (c .before .before .before .before .before .pre .0) (c .before .before .before .before .before .pre .1)
-    (omega arith) (omega arith)
+    let pre = c .before .before .before .before .before .pre in
+    keep-first _ _ (pre .0) (pre .1) (omega arith) (omega arith)
 
 returns-3 : tie.Need-returns-3
 returns-3 c =
-    keep-next _ _ (c .before .before .before .before .before .pre .0) (c .before .before .before .before .before .pre .1)
-    (omega arith) (c .before .before .count .ensures) (omega arith)
+    let pre = c .before .before .before .before .before .pre in
+    keep-next _ _ (pre .0) (pre .1) (omega arith) (c .before .before .count .ensures) (omega arith)
 
 pub keep-spec : {M : Type 1} → statement M
 keep-spec =

@@ -1,16 +1,15 @@
--- `buffer::lookup` meets its contract. Assumes nothing.
+-- The search ends at the first entry of the page (`search-here`) or past the last counted one (`search-end`); any other entry is passed (`search-next`).
 use Prim.Native.Nat.{_≤_, _-_}
 use native.Mathlib.Nat.{zero-add}
 use native.Mathlib.Omega.{arith}
 use mathlib.Core.Path.{_≡_, sym}
-use mathlib.Core.Path.{sym}
 use borrow.Author.Needs.{needs}
 use Rattle.buffer.proofs.Search.{Passed, search-here, search-next, search-end}
 use Rattle.buffer.specs.Held.{count, entriesIn}
-use Rattle.buffer.specs.Held.{entriesIn}
 use Rattle.buffer.proofs.lookup.Statement.{statement}
 use Rattle.buffer.proofs.lookup.Tie as tie
 
+-- i is at most the count n, and none of the first i entries is of the page, so that its place is found from i on.
 abbrev Inv-loop : tie.InvT-loop
 Inv-loop tlb page n i₀ i = (i ≤ n) × ((n ≡ count tlb) × Passed page (entriesIn tlb) i)
 
@@ -22,24 +21,24 @@ loop-holds c = (search needs, (search needs, sym (zero-add _)))
 
 returns : tie.Need-returns Inv-loop μ-loop
 returns c =
-    search-here (c .before .before .before .before .before .before .args .tlb .now) _ (c .before .before .before .loop .i)
-    (c .before .before .before .before .before .before .pre) (c .before .before .before .loop .inv .1 .1) (omega arith) (c .if1 .taken)
+    let given = c .before .before .before .before .before .before .args in
+    let pre = c .before .before .before .before .before .before .pre in
+    let loop = c .before .before .before .loop in
+    search-here (given .tlb .now) _ (loop .i) pre (loop .inv .1 .1) (omega arith) (c .if1 .taken)
 
 loop-again : tie.Need-loop-again Inv-loop μ-loop
-loop-again c = (
-  search needs,
-  (
-    c .before .before .before .loop .inv .1 .0,
-    search-next (c .before .before .before .before .before .before .args .tlb .now) _
-        (c .before .before .before .loop .i) (c .before .before .before .before .before .before .pre) (c .before .before .before .loop .inv .1 .1)
-        (omega arith) (c .if1 .left),
-  ),
-)
+loop-again c =
+    let given = c .before .before .before .before .before .before .args in
+    let pre = c .before .before .before .before .before .before .pre in
+    let loop = c .before .before .before .loop in
+    let passed = search-next (given .tlb .now) _ (loop .i) pre (loop .inv .1 .1) (omega arith) (c .if1 .left) in
+    (search needs, (loop .inv .1 .0, passed))
 
 returns-2 : tie.Need-returns-2 Inv-loop μ-loop
 returns-2 c =
-    search-end (c .before .before .before .before .args .tlb .now) _ (c .before .loop .i) (c .before .before .before .before .pre)
-    (c .before .loop .inv .1 .1) (omega arith)
+    let given = c .before .before .before .before .args in
+    let pre = c .before .before .before .before .pre in
+    search-end (given .tlb .now) _ (c .before .loop .i) pre (c .before .loop .inv .1 .1) (omega arith)
 
 pub lookup-spec : {M : Type 1} → statement M
 lookup-spec =

@@ -1,4 +1,4 @@
--- `buffer::pack` meets its contract. Assumes nothing.
+-- A right is at most 1 (`bool-le`), so that no sum leaves u64; the number unpacks to the entry (`pack-is`).
 use native.Mathlib.Omega.{arith}
 use borrow.Author.Needs.{needs}
 use Rattle.buffer.proofs.Packing.{bool-le, pack-is}

@@ -1,4 +1,4 @@
--- `buffer::serves` meets its contract. Assumes nothing.
+-- The definition, opened, over what the kind of access ensures: the rights are bits of the number.
 use borrow.Author.Needs.{needs}
 use Rattle.paging.specs.Buffer.{serves}
 use Rattle.paging.specs.Walk.{bit}

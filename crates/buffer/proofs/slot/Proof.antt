@@ -1,4 +1,4 @@
--- `buffer::slot` meets its contract. Assumes nothing.
+-- One law a return: the slot is past the count (`slot-past`), its entry serves (`slot-serves`), or it does not (`slot-refuses`).
 use native.Mathlib.Omega.{arith}
 use borrow.Author.Needs.{needs}
 use Rattle.buffer.proofs.Hits.{slot-past, slot-serves, slot-refuses}
@@ -6,17 +6,19 @@ use Rattle.buffer.proofs.slot.Statement.{statement}
 use Rattle.buffer.proofs.slot.Tie as tie
 
 returns : tie.Need-returns
-returns c = slot-past (c .before .before .before .args .tlb .now) (c .before .before .before .args .i) _ _ _ (omega arith)
+returns c =
+    let given = c .before .before .before .args in
+    slot-past (given .tlb .now) (given .i) _ _ _ (omega arith)
 
 returns-2 : tie.Need-returns-2
 returns-2 c =
-    slot-serves (c .before .before .before .before .before .before .args .tlb .now)
-    (c .before .before .before .before .before .before .args .i) _ _ _ (omega arith) (c .before .serves .ensures) (c .if2 .taken)
+    let given = c .before .before .before .before .before .before .args in
+    slot-serves (given .tlb .now) (given .i) _ _ _ (omega arith) (c .before .serves .ensures) (c .if2 .taken)
 
 returns-3 : tie.Need-returns-3
 returns-3 c =
-    slot-refuses (c .before .before .before .before .before .before .args .tlb .now)
-    (c .before .before .before .before .before .before .args .i) _ _ _ (omega arith) (c .before .serves .ensures) (c .if2 .left)
+    let given = c .before .before .before .before .before .before .args in
+    slot-refuses (given .tlb .now) (given .i) _ _ _ (omega arith) (c .before .serves .ensures) (c .if2 .left)
 
 pub slot-spec : {M : Type 1} → statement M
 slot-spec =

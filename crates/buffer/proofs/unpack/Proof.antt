@@ -1,4 +1,4 @@
--- `buffer::unpack` meets its contract. Assumes nothing.
+-- Each field is the definition's, with the test of a bit opened.
 use mathlib.Core.Path.{refl}
 use borrow.Author.Needs.{needs}
 use Rattle.paging.specs.Walk.{bit}

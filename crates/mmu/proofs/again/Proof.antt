@@ -1,4 +1,4 @@
--- `mmu::again` meets its contract. Assumes nothing.
+-- Taken apart and put together, an answer is itself, in both of its cases.
 use mathlib.Core.Path.{sym, _∙_}
 use borrow.Author.Needs.{needs}
 use Rattle.mmu.proofs.again.Statement.{statement}

@@ -1,4 +1,4 @@
--- `mmu::align` meets its contract. Assumes nothing.
+-- The match tells the size, and each arm drops the bits below it (`aligned`).
 use native.Mathlib.Omega.{arith}
 use mathlib.Core.Path.{refl}
 use borrow.Author.Needs.{needs}

@@ -1,4 +1,5 @@
--- `mmu::translate_slow` meets its contract. Assumes nothing.
+-- One law of `Ways` a return: paging off, within memory (`translate-at`) or beyond (`translate-beyond`); paging on, an entry that serves (`translate-hit`)
+-- or a walk (`translate-miss`).
 use native.Mathlib.Omega.{arith}
 use borrow.Author.Needs.{needs}
 use borrow.Author.Tests.{not-true, not-false}
@@ -8,33 +9,35 @@ use Rattle.mmu.proofs.translate_slow.Tie as tie
 
 returns : tie.Need-returns
 returns c =
-    translate-at _ _ _ _ (c .before .before .before .before .before .pre) (not-true _ (c .before .before .if1 .taken))
-    (c .before .if2 .taken) (c .align .ensures)
+    let pre = c .before .before .before .before .before .pre in
+    translate-at _ _ _ _ pre (not-true _ (c .before .before .if1 .taken)) (c .before .if2 .taken) (c .align .ensures)
 
 returns-2 : tie.Need-returns-2
 returns-2 c =
-    translate-beyond _ _ _ _ (c .before .before .before .before .before .pre) (not-true _ (c .before .before .if1 .taken))
-    (c .before .if2 .left) (c .denied .ensures)
+    let pre = c .before .before .before .before .before .pre in
+    translate-beyond _ _ _ _ pre (not-true _ (c .before .before .if1 .taken)) (c .before .if2 .left) (c .denied .ensures)
 
 refill-requires : tie.Need-refill-requires
 refill-requires c κs = search needs
 
 returns-3 : tie.Need-returns-3
 returns-3 c =
-    translate-miss _ _ _ _
-    (c .before .before .before .before .before .before .before .before .before .before .before .before .before .before .before .before .pre)
-    (omega arith)
-    (not-false _ (c .before .before .before .before .before .before .before .before .before .before .before .before .before .if1 .left)) _
-    (c .before .before .before .before .before .before .before .before .before .slot .ensures)
-    (c .before .before .before .before .before .before .before .enum-told .given .1)
-    (c .before .before .before .before .before .before .before .before .before .before .before .lookup .ensures)
-    (c .before .before .before .before .refill .ensures)
+    let at-if1 = c .before .before .before .before .before .before .before .before .before .before .before .before .before in
+    let if1 = at-if1 .if1 in
+    let fits = at-if1 .before .before .before .fits in
+    let pre = at-if1 .before .before .before .pre in
+    let lookup = c .before .before .before .before .before .before .before .before .before .before .before .lookup in
+    let slot = c .before .before .before .before .before .before .before .before .before .slot in
+    let told = c .before .before .before .before .before .before .before .enum-told in
+    let refill = c .before .before .before .before .refill in
+    translate-miss _ _ _ _ pre (fits .addr .fits) (not-false _ (if1 .left)) _ (slot .ensures) (told .given .1) (lookup .ensures) (refill .ensures)
 
 returns-4 : tie.Need-returns-4
 returns-4 c =
-    translate-hit _ _ _ _ (c .before .before .before .before .before .before .before .before .before .before .before .pre) (omega arith)
-    (not-false _ (c .before .before .before .before .before .before .before .before .if1 .left)) _
-    (c .before .before .before .before .slot .ensures) (c .before .before .hit .given .1) (c .in-frame .ensures)
+    let pre = c .before .before .before .before .before .before .before .before .before .before .before .pre in
+    let if1 = c .before .before .before .before .before .before .before .before .if1 in
+    let slot = c .before .before .before .before .slot in
+    translate-hit _ _ _ _ pre (omega arith) (not-false _ (if1 .left)) _ (slot .ensures) (c .before .before .hit .given .1) (c .in-frame .ensures)
 
 pub translate-slow-spec : {M : Type 1} → statement M
 translate-slow-spec =

@@ -1,4 +1,4 @@
--- `walk::allows` meets its contract. Assumes nothing.
+-- The definition, opened, over what the three tests ensure.
 use borrow.Author.Needs.{needs}
 use Rattle.paging.specs.Walk.{allows}
 use Rattle.walk.proofs.allows.Statement.{statement}

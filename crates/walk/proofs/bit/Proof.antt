@@ -1,4 +1,4 @@
--- `walk::bit` meets its contract. Assumes nothing.
+-- The test is the definition, opened.
 use mathlib.Core.Path.{refl}
 use borrow.Author.Needs.{needs}
 use Rattle.paging.specs.Walk.{bit}

@@ -1,4 +1,4 @@
--- `walk::mark` meets its contract. Assumes nothing.
+-- A byte without the mark has room for it (`mark-fits`) and gets it (`mark-sets`); one with the mark is left (`mark-leaves`).
 use native.Mathlib.Omega.{arith}
 use lib.ListN.{getD}
 use borrow.Author.Needs.{needs}
@@ -11,11 +11,11 @@ div-if1 c = mark-positive _ (c .before .pre .1)
 
 add-mem : tie.Need-add-mem
 add-mem c =
-    omega (
-      arith,
-      mark-fits (c .before .before .args .k) (c .before .before .pre .1) (getD (c .before .before .args .mem .now)
-          (c .before .before .args .at) 0) (omega (arith, c .before .slice-known .given (c .before .before .args .at))) (c .if1 .taken),
-    )
+    let given = c .before .before .args in
+    let room =
+    mark-fits (given .k) (c .before .before .pre .1) (getD (given .mem .now) (given .at) 0)
+    (omega (arith, c .before .slice-known .given (given .at))) (c .if1 .taken) in
+    omega arith
 
 returns : tie.Need-returns
 returns c = mark-sets _ _ _ (c .if1 .taken)

@@ -1,4 +1,4 @@
--- `walk::page_fault` meets its contract. Assumes nothing.
+-- The match tells the kind of access, and its fault is the definition's at that kind.
 use mathlib.Core.Path.{sym, ap}
 use borrow.Author.Needs.{needs}
 use Rattle.paging.specs.TrapCode.{pageFault}

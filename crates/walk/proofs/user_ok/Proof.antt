@@ -1,4 +1,4 @@
--- `walk::user_ok` meets its contract. Assumes nothing.
+-- The definition, opened, over what the two tests of U ensure.
 use borrow.Author.Needs.{needs}
 use Rattle.paging.specs.Walk.{userOk}
 use Rattle.walk.proofs.user_ok.Statement.{statement}

@@ -1,4 +1,4 @@
--- `walk::walk_frame` meets its contract. Assumes nothing.
+-- The frame lies beyond memory (`frame-beyond`), or is mapped with the rights that both words give (`frame-mapped`).
 use native.Mathlib.Omega.{arith}
 use borrow.Author.Needs.{needs}
 use Rattle.walk.proofs.Stages.{frame-beyond, frame-mapped}
@@ -7,16 +7,14 @@ use Rattle.walk.proofs.walk_frame.Tie as tie
 
 returns : tie.Need-returns
 returns c =
-    frame-beyond (c .before .before .args .mem .now) (c .before .before .args .dir) (c .before .before .args .table)
-    (c .before .before .args .at) (omega arith)
+    let given = c .before .before .args in
+    frame-beyond (given .mem .now) (given .dir) (given .table) (given .at) (omega arith)
 
 returns-2 : tie.Need-returns-2
 returns-2 c =
-    frame-mapped (c .before .before .before .before .before .before .before .before .args .mem .now)
-    (c .before .before .before .before .before .before .before .before .args .dir)
-    (c .before .before .before .before .before .before .before .before .args .table)
-    (c .before .before .before .before .before .before .before .before .args .at) (omega arith)
-    (c .before .before .before .before .before .load4 .ensures) (cc) (cc)
+    let given = c .before .before .before .before .before .before .before .before .args in
+    let load4 = c .before .before .before .before .before .load4 in
+    frame-mapped (given .mem .now) (given .dir) (given .table) (given .at) (omega arith) (load4 .ensures) (cc) (cc)
 
 pub walk-frame-spec : {M : Type 1} → statement M
 walk-frame-spec =

@@ -1,4 +1,4 @@
--- `walk::walk_table` meets its contract. Assumes nothing.
+-- The table word refuses the access (`table-refused`), or is marked and leads to the frame (`table-allowed`).
 use borrow.Author.Needs.{needs}
 use borrow.Author.Tests.{not-true, not-false}
 use Rattle.walk.proofs.Stages.{table-refused, table-allowed}
@@ -7,15 +7,16 @@ use Rattle.walk.proofs.walk_table.Tie as tie
 
 returns : tie.Need-returns
 returns c =
-    table-refused _ _ _ _ _ (c .before .before .before .load4 .ensures) (c .before .before .allows .ensures)
-    (not-true _ (c .before .if1 .taken)) (c .page-fault .ensures)
+    let load4 = c .before .before .before .load4 in
+    table-refused _ _ _ _ _ (load4 .ensures) (c .before .before .allows .ensures) (not-true _ (c .before .if1 .taken)) (c .page-fault .ensures)
 
 returns-2 : tie.Need-returns-2
 returns-2 c =
-    table-allowed _ _ _ _ _ (c .before .before .before .before .before .before .before .before .load4 .ensures)
-    (c .before .before .before .before .before .before .before .allows .ensures)
-    (not-false _ (c .before .before .before .before .before .before .if1 .left)) (c .before .before .before .before .mark-for .ensures)
-    (c .walk-frame .ensures)
+    let load4 = c .before .before .before .before .before .before .before .before .load4 in
+    let allows = c .before .before .before .before .before .before .before .allows in
+    let if1 = c .before .before .before .before .before .before .if1 in
+    let mark-for = c .before .before .before .before .mark-for in
+    table-allowed _ _ _ _ _ (load4 .ensures) (allows .ensures) (not-false _ (if1 .left)) (mark-for .ensures) (c .walk-frame .ensures)
 
 pub walk-table-spec : {M : Type 1} → statement M
 walk-table-spec =

@@ -1,4 +1,4 @@
--- `walk::write_ok` meets its contract. Assumes nothing.
+-- The definition, opened, over what the kind of access and the two tests of W ensure.
 use borrow.Author.Needs.{needs}
 use Rattle.paging.specs.Walk.{writeOk}
 use Rattle.walk.proofs.write_ok.Statement.{statement}
