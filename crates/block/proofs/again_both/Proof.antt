@@ -1,4 +1,4 @@
--- `block::again_both` meets its contract. Assumes nothing.
+-- What `again` ensures, and b one more.
 use borrow.Author.Needs.{needs}
 use Rattle.block.proofs.again_both.Statement.{statement}
 use Rattle.block.proofs.again_both.Tie as tie

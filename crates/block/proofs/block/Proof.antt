@@ -1,4 +1,4 @@
--- `block::block` meets its contract. Assumes nothing.
+-- c = 0 finishes (`executes-fine`); else the match tells the operation, and its function executes the tree of one byte.
 use Rattle.contracts.proofs.Laws.{executes-fine}
 use Rattle.rules.specs.Block.{blockTree}
 use borrow.Author.Tests.{ne-eqb, eq-eqb}
@@ -8,42 +8,41 @@ use Rattle.block.proofs.block.Tie as tie
 
 returns : tie.Need-returns
 unfolding blockTree
-returns c = rw (eq-eqb _ _ (c .before .before .if1 .taken)) (executes-fine (c .before .before .before .before .before .before .pre) (rw (c .fine .ensures, c .before .finish .ensures)))
-
-enum-told : tie.Need-enum-told
-enum-told c = search needs
+returns c =
+    let pre = c .before .before .before .before .before .before .pre in
+    rw (eq-eqb _ _ (c .before .before .if1 .taken)) (executes-fine pre (rw (c .fine .ensures, c .before .finish .ensures)))
 
 returns-2 : tie.Need-returns-2
 unfolding blockTree
 returns-2 c =
-    let copy-byte = c .before .before .before .before .copy-byte in
-    let enum-told = c .before .before .before .before .before .before .before .before .enum-told in
     let if1 = c .before .before .before .before .before .before .before .before .before .before .if1 in
-    rw (enum-told .given .1, ne-eqb _ _ (if1 .left)) (copy-byte .ensures)
+    let told = c .before .before .before .before .before .before .before .before .enum-told in
+    let copy-byte = c .before .before .before .before .copy-byte in
+    rw (told .given .1, ne-eqb _ _ (if1 .left)) (copy-byte .ensures)
 
 returns-3 : tie.Need-returns-3
 unfolding blockTree
 returns-3 c =
-    let compare-byte = c .before .before .before .before .compare-byte in
-    let enum-told2 = c .before .before .before .before .before .before .before .before .enum-told2 in
     let if1 = c .before .before .before .before .before .before .before .before .before .before .if1 in
-    rw (enum-told2 .given .1, ne-eqb _ _ (if1 .left)) (compare-byte .ensures)
+    let told = c .before .before .before .before .before .before .before .before .enum-told2 in
+    let compare-byte = c .before .before .before .before .compare-byte in
+    rw (told .given .1, ne-eqb _ _ (if1 .left)) (compare-byte .ensures)
 
 returns-4 : tie.Need-returns-4
 unfolding blockTree
 returns-4 c =
-    let search-byte = c .before .before .before .before .search-byte in
-    let enum-told3 = c .before .before .before .before .before .before .before .before .enum-told3 in
     let if1 = c .before .before .before .before .before .before .before .before .before .before .if1 in
-    rw (enum-told3 .given .1, ne-eqb _ _ (if1 .left)) (search-byte .ensures)
+    let told = c .before .before .before .before .before .before .before .before .enum-told3 in
+    let search-byte = c .before .before .before .before .search-byte in
+    rw (told .given .1, ne-eqb _ _ (if1 .left)) (search-byte .ensures)
 
 returns-5 : tie.Need-returns-5
 unfolding blockTree
 returns-5 c =
-    let set-byte = c .before .before .before .before .set-byte in
-    let enum-told4 = c .before .before .before .before .before .before .before .before .enum-told4 in
     let if1 = c .before .before .before .before .before .before .before .before .before .before .if1 in
-    rw (enum-told4 .given .1, ne-eqb _ _ (if1 .left)) (set-byte .ensures)
+    let told = c .before .before .before .before .before .before .before .before .enum-told4 in
+    let set-byte = c .before .before .before .before .set-byte in
+    rw (told .given .1, ne-eqb _ _ (if1 .left)) (set-byte .ensures)
 
 pub block-spec : {M : Type 1} → statement M
 block-spec =
@@ -52,7 +51,7 @@ block-spec =
     (λ c κs. search needs)
     (λ c κs. search needs)
     returns
-    enum-told
+    (λ c. search needs)
     (λ c κs. search needs)
     (λ c. search needs)
     (λ c κs. search needs)

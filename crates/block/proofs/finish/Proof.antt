@@ -1,4 +1,4 @@
--- `block::finish` meets its contract. Assumes nothing.
+-- The match tells the operation: of two of the four a is set to 0.
 use borrow.Author.Needs.{needs}
 use Rattle.block.proofs.finish.Statement.{statement}
 use Rattle.block.proofs.finish.Tie as tie

@@ -1,4 +1,5 @@
--- `block::search_byte` meets its contract. Assumes nothing.
+-- The read at a is denied (`executes-denied`), or lies in memory (`at-within`) and gives the byte (`executes-read`); the leaf has the registers that the
+-- search leaves (`executes-fine`).
 use Rattle.contracts.proofs.Laws.{executes-denied, executes-read, executes-fine}
 use Rattle.rules.specs.Block.{byteTree}
 use Rattle.mmu.proofs.Laws.{at-within}
@@ -23,8 +24,9 @@ returns-2 : tie.Need-returns-2
 unfolding byteTree
 returns-2 c =
     let translate = c .before .before .before .before .before .before .before .before .before .before .before .translate in
-    let p = c .before .before .before .before .before .p in
-    executes-read (translate .ensures) (p .given .1) (c .before .before .load1 .ensures) (executes-fine (translate .ensures .good) (rw (c .fine .ensures, c .before .searched .ensures)))
+    let address = c .before .before .before .before .before .p in
+    executes-read (translate .ensures) (address .given .1) (c .before .before .load1 .ensures)
+    (executes-fine (translate .ensures .good) (rw (c .fine .ensures, c .before .searched .ensures)))
 
 pub search-byte-spec : {M : Type 1} → statement M
 search-byte-spec =

@@ -1,4 +1,4 @@
--- `block::searched` meets its contract. Assumes nothing.
+-- The comparison with b's low byte decides the definition's choice: a break, or on.
 use borrow.Author.Tests.{ne-eqb, eq-eqb}
 use borrow.Author.Needs.{needs}
 use Rattle.block.proofs.searched.Statement.{statement}

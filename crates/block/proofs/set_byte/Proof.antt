@@ -1,4 +1,4 @@
--- `block::set_byte` meets its contract. Assumes nothing.
+-- The write at a is denied (`executes-denied`), or lies in memory (`at-within`) and is the leaf's (`executes-written`), with the registers moved on.
 use Rattle.contracts.proofs.Laws.{executes-denied, executes-written}
 use Rattle.rules.specs.Block.{byteTree}
 use Rattle.mmu.proofs.Laws.{at-within}
@@ -17,16 +17,16 @@ store-requires : tie.Need-store-requires
 store-requires c κs =
     let pre = c .before .before .before .before .before .before .before .before .before .before .before .before .before .before .before .pre in
     let translate = c .before .before .before .before .before .before .before .before .before .translate in
-    let p = c .before .before .before .p in
-    at-within Byte pre (translate .ensures) (p .given .1)
+    let address = c .before .before .before .p in
+    at-within Byte pre (translate .ensures) (address .given .1)
 
 returns-2 : tie.Need-returns-2
 unfolding byteTree
 returns-2 c =
     let translate = c .before .before .before .before .before .before .before .before .before .before .before .before .before .before .translate in
-    let p = c .before .before .before .before .before .before .before .before .p in
+    let address = c .before .before .before .before .before .before .before .before .p in
     let store = c .before .before .before .before .store in
-    executes-written (translate .ensures) (p .given .1) (rw (c .fine .ensures, c .before .again .ensures)) (store .ensures)
+    executes-written (translate .ensures) (address .given .1) (rw (c .fine .ensures, c .before .again .ensures)) (store .ensures)
 
 pub set-byte-spec : {M : Type 1} → statement M
 set-byte-spec =

@@ -1,4 +1,4 @@
--- `contracts::fault_of` meets its contract. Assumes nothing.
+-- Where the answer is an address the match tells so, and the fault is the definition's empty one.
 use borrow.Author.Needs.{needs}
 use Rattle.contracts.proofs.fault_of.Statement.{statement}
 use Rattle.contracts.proofs.fault_of.Tie as tie

@@ -1,4 +1,4 @@
--- `contracts::refused` meets its contract. Assumes nothing.
+-- The fault is the answer's, and put together anew it is itself.
 use borrow.Author.Needs.{needs}
 use Rattle.contracts.proofs.refused.Statement.{statement}
 use Rattle.contracts.proofs.refused.Tie as tie

@@ -1,4 +1,4 @@
--- `operations::adjust` meets its contract. Assumes nothing.
+-- The code's sum is the rule's; `setSp` drops the low three bits as the code does.
 use borrow.Author.Needs.{needs}
 use Rattle.operations.proofs.adjust.Statement.{statement}
 use Rattle.operations.proofs.adjust.Tie as tie

@@ -1,4 +1,4 @@
--- `operations::branch` meets its contract. Assumes nothing.
+-- A taken branch is the jump; one not taken leaves the registers.
 use borrow.Author.Needs.{needs}
 use Rattle.operations.proofs.branch.Statement.{statement}
 use Rattle.operations.proofs.branch.Tie as tie

@@ -1,4 +1,4 @@
--- `operations::compute` meets its contract. Assumes nothing.
+-- The match tells the operation, and the arm is its line of `aluOf`; of one that divides, the test for a zero divisor decides first.
 use borrow.Author.Tests.{ne-eqb}
 use Rattle.operations.specs.Computed.{computed}
 use borrow.Author.Needs.{needs}

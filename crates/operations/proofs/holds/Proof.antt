@@ -1,4 +1,4 @@
--- `operations::holds` meets its contract. Assumes nothing.
+-- The match tells the test, and the arm is its line of `holds`.
 use Rattle.rules.specs.Arithmetic.{holds}
 use borrow.Author.Needs.{needs}
 use Rattle.operations.proofs.holds.Statement.{statement}

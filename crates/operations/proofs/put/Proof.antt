@@ -1,4 +1,4 @@
--- `operations::put` meets its contract. Assumes nothing.
+-- The match tells the register, and the arm sets it.
 use borrow.Author.Needs.{needs}
 use Rattle.operations.proofs.put.Statement.{statement}
 use Rattle.operations.proofs.put.Tie as tie

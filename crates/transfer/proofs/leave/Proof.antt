@@ -1,4 +1,5 @@
--- `transfer::leave` meets its contract. Assumes nothing.
+-- The read at sp is denied (`executes-denied`), or lies in memory (`at-within`) and gives the word (`executes-read`); the leaf sets pc and sp
+-- (`executes-fine`).
 use borrow.Author.Needs.{needs}
 use Rattle.contracts.proofs.Laws.{executes-denied, executes-read, executes-fine}
 use Rattle.rules.specs.Jump.{leaveTree}
@@ -17,11 +18,11 @@ load4-requires c κs = search (at-within Word)
 returns-2 : tie.Need-returns-2
 unfolding leaveTree
 returns-2 c =
-    let sum = c .before .before .before .sum in
-    let load4 = c .before .before .before .before .load4 in
-    let p = c .before .before .before .before .before .before .before .p in
     let translate = c .before .before .before .before .before .before .before .before .before .before .before .before .before .translate in
-    executes-read (translate .ensures) (p .given .1) (load4 .ensures)
+    let address = c .before .before .before .before .before .before .before .p in
+    let load4 = c .before .before .before .before .load4 in
+    let sum = c .before .before .before .sum in
+    executes-read (translate .ensures) (address .given .1) (load4 .ensures)
     (executes-fine (translate .ensures .good) (rw (c .fine .ensures, c .before .regs .ensures, c .before .before .sum2 .ensures, sum .ensures)))
 
 pub leave-spec : {M : Type 1} → statement M

@@ -1,4 +1,5 @@
--- `transfer::pop` meets its contract. Assumes nothing.
+-- The read at sp is denied (`executes-denied`), or lies in memory (`at-within`) and gives the word (`executes-read`); the leaf sets the register and sp
+-- (`executes-fine`).
 use borrow.Author.Needs.{needs}
 use Rattle.contracts.proofs.Laws.{executes-denied, executes-read, executes-fine}
 use Rattle.rules.specs.Transfer.{popTree}
@@ -18,9 +19,10 @@ returns-2 : tie.Need-returns-2
 unfolding popTree
 returns-2 c =
     let translate = c .before .before .before .before .before .before .before .before .before .before .before .before .translate in
-    let p = c .before .before .before .before .before .before .p in
+    let address = c .before .before .before .before .before .before .p in
     let load4 = c .before .before .before .load4 in
-    executes-read (translate .ensures) (p .given .1) (load4 .ensures) (executes-fine (translate .ensures .good) (rw (c .fine .ensures, c .before .before .put .ensures, c .before .sum .ensures)))
+    executes-read (translate .ensures) (address .given .1) (load4 .ensures)
+    (executes-fine (translate .ensures .good) (rw (c .fine .ensures, c .before .before .put .ensures, c .before .sum .ensures)))
 
 pub pop-spec : {M : Type 1} → statement M
 pop-spec =

@@ -1,4 +1,4 @@
--- `transfer::push` meets its contract. Assumes nothing.
+-- The write below sp is denied (`executes-denied`), or lies in memory (`at-within`) and is the leaf's (`executes-written`), with sp and pc set.
 use borrow.Author.Needs.{needs}
 use Rattle.contracts.proofs.Laws.{executes-denied, executes-written}
 use Rattle.rules.specs.Transfer.{pushTree}
@@ -23,11 +23,12 @@ store-requires c κs =
 returns-2 : tie.Need-returns-2
 unfolding pushTree
 returns-2 c =
-    let difference = c .before .before .before .before .before .before .before .before .before .before .before .before .before .before .before .before .before .difference in
-    let translate = c .before .before .before .before .before .before .before .before .before .before .before .before .before .translate in
-    let p = c .before .before .before .before .before .before .before .p in
-    let store = c .before .before .before .before .store in
-    rw (← difference .ensures) (executes-written (translate .ensures) (p .given .1) (rw (c .fine .ensures, c .before .regs .ensures)) (store .ensures))
+    let at-store = c .before .before .before .before in
+    let store = at-store .store in
+    let address = at-store .before .before .before .p in
+    let translate = at-store .before .before .before .before .before .before .before .before .before .translate in
+    let difference = at-store .before .before .before .before .before .before .before .before .before .before .before .before .before .difference in
+    rw (← difference .ensures) (executes-written (translate .ensures) (address .given .1) (rw (c .fine .ensures, c .before .regs .ensures)) (store .ensures))
 
 pub push-spec : {M : Type 1} → statement M
 push-spec =

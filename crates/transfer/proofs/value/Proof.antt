@@ -1,4 +1,4 @@
--- `transfer::value` meets its contract. Assumes nothing.
+-- The match tells the format, so that the bytes that it reads lie in memory (`format-fits`) and what they are widened to is the rule's (`format-value`).
 use mathlib.Core.Path.{ap, _∙_}
 use borrow.Author.Needs.{needs}
 use Rattle.word.specs.Word.{extend}
