@@ -1,11 +1,13 @@
--- `clock::keyed` meets its contract. Assumes nothing.
+-- Where the key comes it can be counted, by what is required; the test decides the definition's choice.
 use native.Mathlib.Omega.{arith}
 use borrow.Author.Needs.{needs}
 use Rattle.clock.proofs.keyed.Statement.{statement}
 use Rattle.clock.proofs.keyed.Tie as tie
 
 add-n : tie.Need-add-n
-add-n c = omega (arith, c .before .before .before .pre .fits (c .before .before .if1 .taken))
+add-n c =
+    let pre = c .before .before .before .pre in
+    omega (arith, pre .fits (c .before .before .if1 .taken))
 
 returns : tie.Need-returns
 returns c = rw (c .before .before .if1 .taken)

@@ -1,4 +1,4 @@
--- `clock::timer_fires` meets its contract. Assumes nothing.
+-- The test is the definition.
 use mathlib.Core.Path.{refl}
 use borrow.Author.Needs.{needs}
 use Rattle.clock.proofs.timer_fires.Statement.{statement}

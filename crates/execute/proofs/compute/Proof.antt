@@ -1,4 +1,4 @@
--- `execute::compute` meets its contract. Assumes nothing.
+-- The operation's result is matched: a value is put into a, a zero divisor is FARITH.
 use borrow.Author.Needs.{needs}
 use Rattle.execute.proofs.compute.Statement.{statement}
 use Rattle.execute.proofs.compute.Tie as tie
@@ -11,8 +11,8 @@ returns c =
 returns-2 : tie.Need-returns-2
 returns-2 c =
     let compute = c .before .before .before .before .before .compute in
-    let v = c .before .before .before .v in
-    rw (c .fine .ensures, c .before .put .ensures, ← compute .ensures, v .given .1)
+    let value = c .before .before .before .v in
+    rw (c .fine .ensures, c .before .put .ensures, ← compute .ensures, value .given .1)
 
 pub compute-spec : {M : Type 1} → statement M
 compute-spec =

@@ -1,4 +1,5 @@
--- `execute::compute_stack` meets its contract. Assumes nothing.
+-- The read at sp + imm is denied (`executes-denied`), or lies in memory (`at-within`) and gives the operand (`executes-read`) of the operation
+-- (`executes-alu`).
 use borrow.Author.Needs.{needs}
 use Rattle.contracts.proofs.Laws.{executes-denied, executes-read}
 use Rattle.rules.specs.Arithmetic.{aluFrom}
@@ -26,8 +27,9 @@ unfolding aluFrom
 returns-2 c =
     let sum = c .before .before .before .before .before .before .before .before .before .before .before .before .before .before .sum in
     let translate = c .before .before .before .before .before .before .before .before .before .before .translate in
-    let p = c .before .before .before .before .p in
-    rw (← sum .ensures) (executes-read (translate .ensures) (p .given .1) (c .before .load4 .ensures) (executes-alu (translate .ensures .good) _ _ _ (c .compute .ensures)))
+    let address = c .before .before .before .before .p in
+    rw (← sum .ensures)
+    (executes-read (translate .ensures) (address .given .1) (c .before .load4 .ensures) (executes-alu (translate .ensures .good) _ _ _ (c .compute .ensures)))
 
 pub compute-stack-spec : {M : Type 1} → statement M
 compute-stack-spec =

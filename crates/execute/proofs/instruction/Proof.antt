@@ -1,4 +1,5 @@
--- `execute::instruction` meets its contract. Assumes nothing.
+-- A denied fetch ends the instruction (`executes-no-fetch`); else the word read is decoded and executed, with pc and step count moved on
+-- (`executes-fetched`).
 use native.Mathlib.Omega.{arith}
 use borrow.Author.Needs.{needs}
 use Rattle.mmu.proofs.Laws.{at-within}
@@ -22,27 +23,31 @@ same-length-3 : tie.Need-same-length-3
 same-length-3 c =
     let at-execute = c .before .before .before .before in
     let execute = at-execute .execute in
-    let translate = at-execute .before .before .before .before .before .before .before .before .before .before .before .before .before .before .before .before .before .translate in
+    let at-load4 = at-execute .before .before .before .before .before .before .before .before in
+    let translate = at-load4 .before .before .before .before .before .before .before .before .before .translate in
     omega (arith, translate .kept .0, execute .kept .1 .1 .1 .1 .0)
 
 same-length-4 : tie.Need-same-length-4
 same-length-4 c =
     let at-execute = c .before .before .before .before in
     let execute = at-execute .execute in
-    let translate = at-execute .before .before .before .before .before .before .before .before .before .before .before .before .before .before .before .before .before .translate in
+    let at-load4 = at-execute .before .before .before .before .before .before .before .before in
+    let translate = at-load4 .before .before .before .before .before .before .before .before .before .translate in
     omega (arith, translate .kept .1 .0, execute .kept .1 .1 .1 .1 .1 .0)
 
 returns-2 : tie.Need-returns-2
 returns-2 c =
-    let execute = c .before .before .before .before .execute in
-    let regs = c .before .before .before .before .before .before .before .before .before .regs in
-    let sum = c .before .before .before .before .before .before .before .before .before .before .sum in
-    let decode = c .before .before .before .before .before .before .before .before .before .before .before .decode in
-    let load4 = c .before .before .before .before .before .before .before .before .before .before .before .before .load4 in
-    let at-p = c .before .before .before .before .before .before .before .before .before .before .before .before .before .before .before in
-    let p = at-p .p in
-    let translate = at-p .before .before .before .before .before .before .translate in
-    executes-fetched _ (translate .ensures) (p .given .1) (load4 .ensures) (decode .ensures) (rw (← sum .ensures) (rw (regs .ensures) at (execute .ensures)))
+    let at-execute = c .before .before .before .before in
+    let execute = at-execute .execute in
+    let at-regs = at-execute .before .before .before .before .before in
+    let regs = at-regs .regs in
+    let sum = at-regs .before .sum in
+    let decode = at-regs .before .before .decode in
+    let load4 = at-regs .before .before .before .load4 in
+    let address = at-regs .before .before .before .before .before .before .p in
+    let translate = at-regs .before .before .before .before .before .before .before .before .before .before .before .before .translate in
+    executes-fetched _ (translate .ensures) (address .given .1) (load4 .ensures) (decode .ensures)
+    (rw (← sum .ensures) (rw (regs .ensures) at (execute .ensures)))
 
 pub instruction-spec : {M : Type 1} → statement M
 instruction-spec =

@@ -1,4 +1,4 @@
--- `keys::next_packed` meets its contract. Assumes nothing.
+-- Below the count of packed keys the key is read from its nine bytes (`packed-some`), past it there is none (`packed-none`).
 use Rattle.keys.proofs.Packed.{packed-some, packed-none}
 use Rattle.keys.specs.Packed.{keyAt}
 use borrow.Author.Needs.{needs}

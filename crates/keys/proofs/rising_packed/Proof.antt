@@ -1,5 +1,4 @@
--- `keys::rising_packed` meets its contract. The loop: `ok` says of the keys before `key`, and the order of the others after `last` says of the
--- rest, what is asked of all. Assumes nothing.
+-- A turn takes one key from the rest to those judged (`packed-on`); past the last key nothing is left to judge (`packed-end`).
 use Rattle.keys.proofs.Packed.{packed-on, packed-end}
 use Rattle.keys.specs.Packed.{keyAt, unpacked}
 use Rattle.rules.specs.Run.{keysRise}
@@ -12,6 +11,7 @@ use Prim.Native.Nat.{_-_}
 use Rattle.keys.proofs.rising_packed.Statement.{statement}
 use Rattle.keys.proofs.rising_packed.Tie as tie
 
+-- `ok` of the keys before `key`, and the order of the others after the step number `last`, together say what is asked of all.
 abbrev Inv-loop : tie.InvT-loop
 Inv-loop keys count ok₀ last₀ key₀ ok last key = (ok && keysRise last (drop key (unpacked keys))) ≡ keysRise 0 (unpacked keys)
 

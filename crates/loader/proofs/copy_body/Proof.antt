@@ -1,4 +1,4 @@
--- `loader::copy_body` meets its contract. The loop: the first i bytes of memory are the body's. Assumes nothing.
+-- A turn puts one more byte of the body at the front (`front-on`); past the last the body stands there whole (`placed-end`).
 use Rattle.loader.proofs.Image.{Front, front-on, placed-end}
 use lib.ListN.{length}
 use borrow.Author.Needs.{needs}
@@ -8,6 +8,7 @@ use Prim.Native.Nat.{_-_}
 use Rattle.loader.proofs.copy_body.Statement.{statement}
 use Rattle.loader.proofs.copy_body.Tie as tie
 
+-- The first i bytes of memory are the body's, the others as they were.
 abbrev Inv-loop : tie.InvT-loop
 Inv-loop body mem₀ i₀ mem i = Front body mem₀ i mem
 

@@ -1,4 +1,4 @@
--- `loader::fill` meets its contract. Assumes nothing.
+-- The body placed and the rest zeroed is the image (`filled`).
 use Rattle.loader.proofs.Image.{filled}
 use borrow.Author.Needs.{needs}
 use Rattle.loader.proofs.fill.Statement.{statement}
@@ -6,8 +6,8 @@ use Rattle.loader.proofs.fill.Tie as tie
 
 returns : tie.Need-returns
 returns c =
-    let copy-body = c .before .before .before .before .before .before .copy-body in
     let pre = c .before .before .before .before .before .before .before .before .before .before .before .pre in
+    let copy-body = c .before .before .before .before .before .before .copy-body in
     filled _ _ pre (copy-body .ensures) (c .before .before .zero-from .ensures)
 
 pub fill-spec : {M : Type 1} → statement M

@@ -1,4 +1,4 @@
--- `loader::zero_from` meets its contract. The loop: memory up to `at` is what is asked, the rest as it was. Assumes nothing.
+-- What is asked is memory as it was up to `from`, and zeros: the loop puts it at the front byte by byte (`zeroed-on`), to the end (`zeroed-end`).
 use Rattle.loader.proofs.Image.{Front, zeroed-start, zeroed-on, zeroed-end}
 use Rattle.loader.specs.Loader.{zeroed}
 use lib.ListN.{length}
@@ -8,6 +8,7 @@ use Prim.Native.Nat.{_-_, _≤_}
 use Rattle.loader.proofs.zero_from.Statement.{statement}
 use Rattle.loader.proofs.zero_from.Tie as tie
 
+-- Memory up to `at`, which is `from` or later, is what is asked; the rest is as it was.
 abbrev Inv-loop : tie.InvT-loop
 Inv-loop mem₀ from at₀ mem at = Front (zeroed from mem₀) mem₀ at mem × (from ≤ at)
 

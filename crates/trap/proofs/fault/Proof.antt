@@ -1,4 +1,4 @@
--- `trap::fault` meets its contract. Assumes nothing.
+-- A trap from the record with vadr set, which keeps the directory (`fault-trapped`).
 use borrow.Author.Needs.{needs}
 use Rattle.trap.proofs.Delivery.{fault-trapped}
 use Rattle.trap.proofs.fault.Statement.{statement}
@@ -6,14 +6,15 @@ use Rattle.trap.proofs.fault.Tie as tie
 
 trap-requires : tie.Need-trap-requires
 trap-requires c κs =
-    let s6 = c .before .before .before .before .before .before in
-    rw (c .before .before .before .with-vadr .ensures) (s6 .pre)
+    let pre = c .before .before .before .before .before .before .pre in
+    let with-vadr = c .before .before .before .with-vadr in
+    rw (with-vadr .ensures) pre
 
 returns : tie.Need-returns
 returns c =
-    let s4 = c .before .before .before .before in
-    let s8 = s4 .before .before .before .before in
-    λ con. fault-trapped _ _ (s8 .with-vadr .ensures) (s4 .trap .ensures con)
+    let with-vadr = c .before .before .before .before .before .before .before .before .with-vadr in
+    let trap = c .before .before .before .before .trap in
+    λ con. fault-trapped _ _ (with-vadr .ensures) (trap .ensures con)
 
 pub fault-spec : {M : Type 1} → statement M
 fault-spec = tie.close (tie.spec (λ c κs. search needs) trap-requires (λ c. search needs) (λ c. search needs) returns)

@@ -1,4 +1,4 @@
--- `trap::masked` meets its contract. Assumes nothing.
+-- What `stopped` ensures, at this reason.
 use borrow.Author.Needs.{needs}
 use Rattle.trap.proofs.masked.Statement.{statement}
 use Rattle.trap.proofs.masked.Tie as tie

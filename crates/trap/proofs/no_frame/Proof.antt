@@ -1,4 +1,4 @@
--- `trap::no_frame` meets its contract. Assumes nothing.
+-- What `stopped` ensures, at this reason.
 use borrow.Author.Needs.{needs}
 use Rattle.trap.proofs.no_frame.Statement.{statement}
 use Rattle.trap.proofs.no_frame.Tie as tie

@@ -1,4 +1,4 @@
--- `trap::trap_code` meets its contract. Assumes nothing.
+-- From user mode the sum with 16 is the definition's.
 use borrow.Author.Needs.{needs}
 use Rattle.trap.proofs.trap_code.Statement.{statement}
 use Rattle.trap.proofs.trap_code.Tie as tie

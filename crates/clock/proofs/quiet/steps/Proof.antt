@@ -1,4 +1,4 @@
--- `clock::quiet::steps` meets its contract. Assumes nothing.
+-- The definition, opened: a machine that waits has no such step, and else the key's bound is bounded by the timer's.
 use borrow.Author.Needs.{needs}
 use Rattle.clock.specs.Quiet.{quietSteps}
 use Rattle.clock.proofs.quiet.steps.Statement.{statement}
