@@ -1,4 +1,4 @@
--- `refusals::entry_ok` meets its contract. Assumes nothing.
+-- The test is the definition, opened.
 use mathlib.Core.Path.{refl}
 use borrow.Author.Needs.{needs}
 use Rattle.paging.specs.Buffer.{entryOk}

@@ -1,4 +1,4 @@
--- `refusals::registers_ok` meets its contract. Assumes nothing.
+-- The test is the definition, opened.
 use mathlib.Core.Path.{refl}
 use Rattle.rules.specs.Run.{registersOk}
 use borrow.Author.Needs.{needs}
