@@ -1,4 +1,4 @@
--- `result_line::refused_line` meets its contract. Assumes nothing.
+-- The name with its number, written at the start of the line, is the line (`shows`).
 use Rattle.result_line.proofs.Room.{shows}
 use Rattle.result_line.specs.Line.{refusedLine}
 use borrow.Author.Needs.{needs}

@@ -1,4 +1,4 @@
--- `result_line::run_line` meets its contract. Assumes nothing.
+-- The line is that of a refused load (`shown-refused`), or of the run after an accepted one (`shown-ran`).
 use Rattle.result_line.proofs.Printed.{shown-refused, shown-ran}
 use borrow.Author.Needs.{needs}
 use Rattle.result_line.proofs.run_line.Statement.{statement}
@@ -6,16 +6,15 @@ use Rattle.result_line.proofs.run_line.Tie as tie
 
 returns : tie.Need-returns
 returns c =
-    let if1 = c .before .before .before .before .if1 in
-    let load-number = c .before .before .before .before .before .load-number in
     let load = c .before .before .before .before .before .before .before .before .load in
+    let load-number = c .before .before .before .before .before .load-number in
+    let if1 = c .before .before .before .before .if1 in
     shown-refused _ _ _ (load .ensures .same) (load-number .ensures) (if1 .taken) (c .before .before .refused-line .ensures)
 
 stop-line-requires : tie.Need-stop-line-requires
 stop-line-requires c κs =
-    let earlier = c .before .before .before .before .before .before .before .before .before .before .before .before .before .before .before .before .before in
-    let pre = earlier .before .before .before .before .before .before .pre in
-    pre
+    let at-run-packed = c .before .before .before .before .before .before .before .before in
+    at-run-packed .before .before .before .before .before .before .before .before .before .before .before .before .before .before .before .pre
 
 returns-2 : tie.Need-returns-2
 returns-2 c =

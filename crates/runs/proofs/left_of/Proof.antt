@@ -1,4 +1,4 @@
--- `runs::left_of` meets its contract. Assumes nothing.
+-- The machine runs (`left-taken`), or has stopped (`left-none`).
 use Rattle.runs.proofs.Left.{left-taken, left-none}
 use mathlib.Core.Path.{sym, _∙_}
 use borrow.Author.Needs.{needs}
