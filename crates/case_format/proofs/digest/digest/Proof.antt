@@ -1,10 +1,10 @@
--- `case_format::digest::digest` is safe and ends. Assumes nothing.
 use Prim.Native.Nat.{_-_, _<_}
 use lib.ListN.{length}
 use borrow.Author.Needs.{needs}
 use Rattle.case_format.proofs.digest.digest.Statement.{statement}
 use Rattle.case_format.proofs.digest.digest.Tie as tie
 
+-- The number so far is below the larger modulus, as `mix` asks.
 abbrev Inv-loop : tie.InvT-loop
 Inv-loop s second x₀ i₀ x i = x < 4294967357
 

@@ -1,4 +1,3 @@
--- `case_format::given::chunks` is safe and ends. Assumes nothing.
 use Prim.Native.Nat.{_-_}
 use lib.ListN.{length}
 use mathlib.Core.Path.{_≡_}
@@ -6,6 +5,7 @@ use borrow.Author.Needs.{needs}
 use Rattle.case_format.proofs.given.chunks.Statement.{statement}
 use Rattle.case_format.proofs.given.chunks.Tie as tie
 
+-- Memory has its length still.
 abbrev Inv-loop : tie.InvT-loop
 Inv-loop s from count mem₀ at₀ i₀ mem at i = length mem ≡ length mem₀
 

@@ -1,4 +1,3 @@
--- `case_format::given::copy` is safe and ends. Assumes nothing.
 use Prim.Native.Nat.{_+_, _-_, _≤_}
 use lib.ListN.{length}
 use mathlib.Core.Path.{_≡_}
@@ -6,6 +5,7 @@ use borrow.Author.Needs.{needs}
 use Rattle.case_format.proofs.given.copy.Statement.{statement}
 use Rattle.case_format.proofs.given.copy.Tie as tie
 
+-- The target has its length still; what is copied, `most` bytes, lies within the source and within the target.
 abbrev Inv-loop : tie.InvT-loop
 Inv-loop s from to₀ at n given most i₀ to i = (length to ≡ length to₀) × (from + most ≤ length s) × (at + most ≤ length to₀)
 

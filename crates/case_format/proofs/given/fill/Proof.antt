@@ -1,4 +1,3 @@
--- `case_format::given::fill` is safe and ends. Assumes nothing.
 use Prim.Native.Nat.{_-_}
 use lib.ListN.{length}
 use mathlib.Core.Path.{_≡_}
@@ -6,6 +5,7 @@ use borrow.Author.Needs.{needs}
 use Rattle.case_format.proofs.given.fill.Statement.{statement}
 use Rattle.case_format.proofs.given.fill.Tie as tie
 
+-- The slice has its length still.
 abbrev Inv-loop : tie.InvT-loop
 Inv-loop bytes₀ value i₀ bytes i = length bytes ≡ length bytes₀
 

@@ -1,10 +1,10 @@
--- `case_format::judged::chunks_end` is safe and ends. Assumes nothing.
 use Prim.Native.Nat.{_≤_, _-_}
 use lib.ListN.{length}
 use borrow.Author.Needs.{needs}
 use Rattle.case_format.proofs.judged.chunks_end.Statement.{statement}
 use Rattle.case_format.proofs.judged.chunks_end.Tie as tie
 
+-- The chunks so far end within the case.
 abbrev Inv-loop : tie.InvT-loop
 Inv-loop s from count size at₀ free₀ i₀ at free i = at ≤ length s
 

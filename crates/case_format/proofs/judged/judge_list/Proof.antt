@@ -1,9 +1,9 @@
--- `case_format::judged::judge_list` is safe and ends. Assumes nothing.
 use Prim.Native.Nat.{_≤_, _-_}
 use borrow.Author.Needs.{needs}
 use Rattle.case_format.proofs.judged.judge_list.Statement.{statement}
 use Rattle.case_format.proofs.judged.judge_list.Tie as tie
 
+-- At most `count` runs are passed.
 abbrev Inv-loop : tie.InvT-loop
 Inv-loop s from count at₀ i₀ at i = i ≤ count
 

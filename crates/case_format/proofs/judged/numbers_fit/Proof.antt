@@ -1,9 +1,9 @@
--- `case_format::judged::numbers_fit` is safe and ends. Assumes nothing.
 use Prim.Native.Nat.{_≤_, _-_}
 use borrow.Author.Needs.{needs}
 use Rattle.case_format.proofs.judged.numbers_fit.Statement.{statement}
 use Rattle.case_format.proofs.judged.numbers_fit.Tie as tie
 
+-- At most 19 numbers are passed.
 abbrev Inv-loop : tie.InvT-loop
 Inv-loop s i₀ i = i ≤ 19
 

@@ -1,9 +1,9 @@
--- `case_format::judged::rights_fit` is safe and ends. Assumes nothing.
 use Prim.Native.Nat.{_≤_, _-_}
 use borrow.Author.Needs.{needs}
 use Rattle.case_format.proofs.judged.rights_fit.Statement.{statement}
 use Rattle.case_format.proofs.judged.rights_fit.Tie as tie
 
+-- At most `slots` slots are passed.
 abbrev Inv-loop : tie.InvT-loop
 Inv-loop s slots i₀ i = i ≤ slots
 

@@ -1,4 +1,4 @@
--- `case_format::printed::end` is safe and ends. Assumes nothing.
+-- The newline is stored below the buffer's end, so that the slice written out has the n + 1 bytes it says (`length-take-le`).
 use native.Mathlib.Omega.{arith}
 use lib.ListN.{length-set}
 use lib.Seq.{length-take-le}

@@ -1,4 +1,4 @@
--- `case_format::printed::number` is safe and ends. Assumes nothing.
+-- A store keeps the length (`length-set`), so that the room tested for is there still after the space.
 use lib.ListN.{length-set}
 use native.Mathlib.Omega.{arith}
 use mathlib.Core.Path.{_∙_}
@@ -7,7 +7,9 @@ use Rattle.case_format.proofs.printed.number.Statement.{statement}
 use Rattle.case_format.proofs.printed.number.Tie as tie
 
 decimal-requires-2 : tie.Need-decimal-requires-2
-decimal-requires-2 c κs = omega (arith, length-set (c .before .before .before .before .before .args .out .now) (c .before .before .before .before .before .args .at) 32)
+decimal-requires-2 c κs =
+    let given = c .before .before .before .before .before .args in
+    omega (arith, length-set (given .out .now) (given .at) 32)
 
 same-length-2 : tie.Need-same-length-2
 same-length-2 c =

@@ -1,4 +1,3 @@
--- `case_format::printed::numbers` is safe and ends. Assumes nothing.
 use Prim.Native.Nat.{_-_}
 use lib.ListN.{length}
 use mathlib.Core.Path.{_≡_}
@@ -6,6 +5,7 @@ use borrow.Author.Needs.{needs}
 use Rattle.case_format.proofs.printed.numbers.Statement.{statement}
 use Rattle.case_format.proofs.printed.numbers.Tie as tie
 
+-- The line's buffer has its length still.
 abbrev Inv-loop : tie.InvT-loop
 Inv-loop out₀ at values p₀ i₀ out p i = length out ≡ length out₀
 

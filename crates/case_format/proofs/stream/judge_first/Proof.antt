@@ -1,4 +1,4 @@
--- `case_format::stream::judge_first` is safe and ends. Assumes nothing.
+-- The test keeps n within the buffer, so that the slice of the first n bytes has that length (`length-take-le`).
 use lib.Seq.{length-take-le}
 use native.Mathlib.Omega.{arith}
 use mathlib.Core.Path.{sym}

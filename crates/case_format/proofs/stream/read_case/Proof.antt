@@ -1,4 +1,4 @@
--- `case_format::stream::read_case` is safe and ends. Assumes nothing.
+-- The test keeps 4 within the buffer, so that the slice of the first four bytes has that length (`length-take-le`).
 use lib.Seq.{length-take-le}
 use native.Mathlib.Omega.{arith}
 use mathlib.Core.Path.{sym}
@@ -7,7 +7,9 @@ use Rattle.case_format.proofs.stream.read_case.Statement.{statement}
 use Rattle.case_format.proofs.stream.read_case.Tie as tie
 
 slice-aggregate-read-full : tie.Need-slice-aggregate-read-full
-slice-aggregate-read-full c = sym (length-take-le 4 (c .before .before .before .args .buf .now) (omega arith))
+slice-aggregate-read-full c =
+    let given = c .before .before .before .args in
+    sym (length-take-le 4 (given .buf .now) (omega arith))
 
 pub read-case-spec : {M : Type 1} → statement M
 read-case-spec =
