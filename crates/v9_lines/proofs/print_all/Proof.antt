@@ -1,9 +1,9 @@
--- `v9_lines::print_all` is safe and ends. Assumes nothing.
 use Prim.Native.Nat.{_-_}
 use borrow.Author.Needs.{needs}
 use Rattle.v9_lines.proofs.print_all.Statement.{statement}
 use Rattle.v9_lines.proofs.print_all.Tie as tie
 
+-- Nothing is kept from file to file: the number of lines is bounded by the loop's test.
 abbrev Inv-loop : tie.InvT-loop
 Inv-loop lines₀ lines = Unit {0}
 

@@ -1,4 +1,4 @@
--- `v9_lines::read_file` meets its contract. Assumes nothing.
+-- The bytes kept are at most the file's room (`least`), so that the slice read into has that length (`length-take-le`).
 use native.Mathlib.Omega.{arith}
 use mathlib.Core.Path.{sym}
 use lib.Seq.{length-take-le}

@@ -1,8 +1,8 @@
--- `v9_lines::skip` is safe and ends. Assumes nothing.
 use borrow.Author.Needs.{needs}
 use Rattle.v9_lines.proofs.skip.Statement.{statement}
 use Rattle.v9_lines.proofs.skip.Tie as tie
 
+-- Nothing is kept: each turn reads past some byte of the rest, or ends.
 abbrev Inv-loop : tie.InvT-loop
 Inv-loop n rest₀ rest = Unit {0}
 

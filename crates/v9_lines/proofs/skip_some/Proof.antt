@@ -1,4 +1,4 @@
--- `v9_lines::skip_some` meets its contract. Assumes nothing.
+-- At most 4,096 bytes are asked for (`least`), which the buffer has, so that the slice has that length (`length-take-le`) and no more is read.
 use native.Mathlib.Omega.{arith}
 use mathlib.Core.Path.{sym}
 use lib.Seq.{length-take-le}
@@ -11,10 +11,11 @@ slice-aggregate-read-full c = sym (length-take-le _ _ (omega (arith, c .before .
 
 returns : tie.Need-returns
 returns c =
-    let read = c .before .read-full in
-    let size = c .before .before .before .least in
-    let part = c .before .before .before .before .buffer in
-    omega (arith, read .ensures .0, read .kept .1 .0, size .ensures, length-take-le (size .result) (part .result) (omega (arith, size .ensures, part .ensures)))
+    let buffer = c .before .before .before .before .buffer in
+    let least = c .before .before .before .least in
+    let read-full = c .before .read-full in
+    let part = length-take-le (least .result) (buffer .result) (omega (arith, least .ensures, buffer .ensures)) in
+    omega (arith, read-full .ensures .0, read-full .kept .1 .0, least .ensures, part)
 
 pub skip-some-spec : {M : Type 1} → statement M
 skip-some-spec =

@@ -1,4 +1,3 @@
--- `entry_calls::made::by_steps` is safe and ends. Assumes nothing.
 use Prim.Native.Nat.{_≤_}
 use lib.ListN.{length}
 use mathlib.Core.Path.{_≡_}
@@ -6,8 +5,10 @@ use borrow.Author.Needs.{needs}
 use Rattle.entry_calls.proofs.made.by_steps.Statement.{statement}
 use Rattle.entry_calls.proofs.made.by_steps.Tie as tie
 
+-- Memory and console have their lengths still, and at most 64 keys are given.
 abbrev Inv-loop : tie.InvT-loop
-Inv-loop packed budget mem₀ con₀ keys n machine₀ left₀ number₀ steps₀ mem con machine left number steps = (length mem ≡ length mem₀) × (length con ≡ length con₀) × (n ≤ 64)
+Inv-loop packed budget mem₀ con₀ keys n machine₀ left₀ number₀ steps₀ mem con machine left number steps =
+    (length mem ≡ length mem₀) × (length con ≡ length con₀) × (n ≤ 64)
 
 abbrev μ-loop : tie.MeasureT-loop
 μ-loop packed budget mem₀ con₀ keys n machine₀ left₀ number₀ steps₀ mem con machine left number steps = left

@@ -1,4 +1,3 @@
--- `entry_calls::packed::keys_of` is safe and ends. Assumes nothing.
 use Prim.Native.Nat.{_≤_, _-_}
 use lib.ListN.{length}
 use mathlib.Core.Path.{_≡_}
@@ -6,6 +5,7 @@ use borrow.Author.Needs.{needs}
 use Rattle.entry_calls.proofs.packed.keys_of.Statement.{statement}
 use Rattle.entry_calls.proofs.packed.keys_of.Tie as tie
 
+-- At most 64 keys are taken over, and the list has room for 64.
 abbrev Inv-loop : tie.InvT-loop
 Inv-loop keys list₀ n i₀ list i = (n ≤ 64) × (length list ≡ 64)
 
