@@ -1,4 +1,3 @@
--- `cases::given::entries_at` is safe and ends. Assumes nothing.
 use Prim.Native.Nat.{_≤_, _-_}
 use lib.ListN.{length}
 use mathlib.Core.Path.{_≡_}
@@ -6,6 +5,7 @@ use borrow.Author.Needs.{needs}
 use Rattle.cases.proofs.given.entries_at.Statement.{statement}
 use Rattle.cases.proofs.given.entries_at.Tie as tie
 
+-- At most 64 slots are taken over, and the list has room for 64.
 abbrev Inv-loop : tie.InvT-loop
 Inv-loop s slots entries₀ i₀ entries i = (slots ≤ 64) × (length entries ≡ 64)
 

@@ -1,4 +1,3 @@
--- `cases::given::numbers_at` is safe and ends. Assumes nothing.
 use Prim.Native.Nat.{_-_}
 use lib.ListN.{length}
 use mathlib.Core.Path.{_≡_}
@@ -6,6 +5,7 @@ use borrow.Author.Needs.{needs}
 use Rattle.cases.proofs.given.numbers_at.Statement.{statement}
 use Rattle.cases.proofs.given.numbers_at.Tie as tie
 
+-- The list of numbers has its length, 19, still.
 abbrev Inv-loop : tie.InvT-loop
 Inv-loop s numbers₀ i₀ numbers i = length numbers ≡ 19
 

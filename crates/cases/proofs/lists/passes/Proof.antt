@@ -1,4 +1,3 @@
--- `cases::lists::passes` is safe and ends. Assumes nothing.
 use Prim.Native.Nat.{_<_, _-_}
 use lib.ListN.{length}
 use mathlib.Core.Path.{_≡_}
@@ -6,6 +5,7 @@ use borrow.Author.Needs.{needs}
 use Rattle.cases.proofs.lists.passes.Statement.{statement}
 use Rattle.cases.proofs.lists.passes.Tie as tie
 
+-- Memory and console have their lengths still, and the entry's number is not 0.
 abbrev Inv-loop : tie.InvT-loop
 Inv-loop s no' mem₀ con₀ entry₀ mem con entry = (length mem ≡ length mem₀) × (length con ≡ length con₀) × (0 < entry)
 

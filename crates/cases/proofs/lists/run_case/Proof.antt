@@ -1,4 +1,4 @@
--- `cases::lists::run_case` is safe and ends. Assumes nothing.
+-- The tests keep both sizes within what is lent, so that the slices of memory and console have these lengths (`length-take-le`).
 use lib.Seq.{length-take-le}
 use native.Mathlib.Omega.{arith}
 use mathlib.Core.Path.{sym}

@@ -1,4 +1,3 @@
--- `cases::lists::run_list` is safe and ends. Assumes nothing.
 use Prim.Native.Nat.{_-_}
 use lib.ListN.{length}
 use mathlib.Core.Path.{_≡_}
@@ -6,6 +5,7 @@ use borrow.Author.Needs.{needs}
 use Rattle.cases.proofs.lists.run_list.Statement.{statement}
 use Rattle.cases.proofs.lists.run_list.Tie as tie
 
+-- Memory and console have their lengths still.
 abbrev Inv-loop : tie.InvT-loop
 Inv-loop s from no' entry mem₀ con₀ count m₀ at₀ i₀ mem con m at i = (length mem ≡ length mem₀) × (length con ≡ length con₀)
 

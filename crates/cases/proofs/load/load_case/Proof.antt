@@ -1,4 +1,4 @@
--- `cases::load::load_case` is safe and ends. Assumes nothing.
+-- The test keeps the size within what is lent, so that the slice of memory has that length (`length-take-le`).
 use lib.Seq.{length-take-le}
 use native.Mathlib.Omega.{arith}
 use mathlib.Core.Path.{sym}

@@ -1,4 +1,3 @@
--- `cases::printed::buffer` is safe and ends. Assumes nothing.
 use Prim.Native.Nat.{_≤_, _-_}
 use lib.ListN.{length}
 use mathlib.Core.Path.{_≡_}
@@ -6,6 +5,7 @@ use borrow.Author.Needs.{needs}
 use Rattle.cases.proofs.printed.buffer.Statement.{statement}
 use Rattle.cases.proofs.printed.buffer.Tie as tie
 
+-- The line's buffer has its length still, and at most 64 entries are printed.
 abbrev Inv-loop : tie.InvT-loop
 Inv-loop out₀ at held entries p₀ n i₀ out p i = (length out ≡ length out₀) × (n ≤ 64)
 

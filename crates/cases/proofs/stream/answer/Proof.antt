@@ -1,9 +1,9 @@
--- `cases::stream::answer` is safe and ends. Assumes nothing.
 use Prim.Native.Nat.{_-_}
 use borrow.Author.Needs.{needs}
 use Rattle.cases.proofs.stream.answer.Statement.{statement}
 use Rattle.cases.proofs.stream.answer.Tie as tie
 
+-- Nothing is kept from case to case: the number of cases is bounded by the loop's test.
 abbrev Inv-loop : tie.InvT-loop
 Inv-loop buf₀ memory₀ console₀ no₀ buf memory console no' = Unit {0}
 

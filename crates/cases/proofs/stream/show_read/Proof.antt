@@ -1,4 +1,4 @@
--- `cases::stream::show_read` is safe and ends. Assumes nothing.
+-- The test keeps n within the buffer, so that the slice of the case has that length (`length-take-le`).
 use lib.Seq.{length-take-le}
 use native.Mathlib.Omega.{arith}
 use mathlib.Core.Path.{sym}
