@@ -140,11 +140,10 @@ module _ {M : Type 1} (𝓤 : URA M) (H : Heap 𝓤) (A : Atoms 𝓤) (W : Given
         → ent 𝓤 (onEntry 𝓤 H A f.signature (κm, (κc, tt)) (qm, (qc, tt)) a at)
         (WpFn 𝓤 H C Λ code.function (machM h ∷ sm ∷ sc ∷ machKeys ks ∷ vint w64 n ∷ vint w64 budget ∷ []) Post)
     walk gm gc =
-        qed W ((‵ (flft κm qm) ⊛ ‵ (flft κc qc) ⊛ ‵ ftrue) ∷ ‵ (owns
-        (T.the-row ∷ MutSlice (named 0) κm u8 ∷ MutSlice (named 1) κc u8 ∷ Array K.the-row 64 ∷ u64 ∷ u64 ∷ []) a at) ∷ []) ∵
+        qed W ((‵ (flft κm qm) ⊛ ‵ (flft κc qc) ⊛ ‵ ftrue) ∷
+        ‵ (owns (T.the-row ∷ MutSlice (named 0) κm u8 ∷ MutSlice (named 1) κc u8 ∷ Array K.the-row 64 ∷ u64 ∷ u64 ∷ []) a at) ∷ []) ∵
         enter ! C Λ code.function (machM h ∷ sm ∷ sc ∷ machKeys ks ∷ vint w64 n ∷ vint w64 budget ∷ []) _ $
-        alloc1 ! (λ l₀.
-        alloc1 ! (λ l₁. alloc1 ! (λ l₂. alloc1 ! (λ l₃. alloc1 ! (λ l₄.
+        alloc1 ! (λ l₀. alloc1 ! (λ l₁. alloc1 ! (λ l₂. alloc1 ! (λ l₃. alloc1 ! (λ l₄.
         alloc1 ! (λ l₅. alloc1 ! (λ l₆. alloc1 ! (λ l₇. alloc1 ! (λ l₈.
         alloc1 ! (λ l₉. alloc1 ! (λ l₁₀. alloc1 ! (λ l₁₁. alloc1 ! (λ l₁₂. alloc1 ! (λ l₁₃. alloc0 ! $ params1 ! $
         pass1 ! (init ! 24 refl (LL.lawful T.the-type T′.the-laws 𝓤 H A W .typed h _ h-is .0)) $

@@ -76,6 +76,13 @@ stayed = (
 abbrev machS : Numbered → Val
 machS s = LL.val S.the-type S′.the-laws s
 
+-- the result: the record x as it is after the call, and the answer's number m
+abbrev made : Machine → ℕ → Numbered
+made x m = record { machine = x; number = m }
+
+made-is : (x : Machine) (m : ℕ) → Is T.the-row x (machM x ∷ []) → m < 2 ^ 32 → Is S.the-row (made x m) (machS (made x m) ∷ [])
+made-is x m x-is fits = LL.owes S.the-type S′.the-laws (made x m) (x-is, ((refl, fits), tt))
+
 -- the contract that the proof cites
 abbrev Step : {M : Type 1} (𝓤 : URA M) (H : Heap 𝓤) (A : Atoms 𝓤) (at-mem : Memory → SProp 𝓤) (run : Routine → Fun 𝓤) → Contract 𝓤
 Step 𝓤 H A at-mem run = tripleOf 𝓤 H A callee.signature (callee.spec 𝓤 H A at-mem run)
@@ -150,11 +157,10 @@ module _ {M : Type 1} (𝓤 : URA M) (H : Heap 𝓤) (A : Atoms 𝓤) (W : Given
     walk : Room u8 (length (xm .now)) → Room u8 (length (xc .now))
         → ent 𝓤 (onEntry 𝓤 H A f.signature (κm, (κc, tt)) (qm, (qc, tt)) a at) (WpFn 𝓤 H C Λ code.function (machM h ∷ sm ∷ sc ∷ machKeys ks ∷ vint w64 n ∷ []) Post)
     walk gm gc =
-        qed W ((‵ (flft κm qm) ⊛ ‵ (flft κc qc) ⊛ ‵ ftrue) ∷ ‵ (owns
-        (T.the-row ∷ MutSlice (named 0) κm u8 ∷ MutSlice (named 1) κc u8 ∷ Array K.the-row 64 ∷ u64 ∷ []) a at) ∷ []) ∵
+        qed W ((‵ (flft κm qm) ⊛ ‵ (flft κc qc) ⊛ ‵ ftrue) ∷
+        ‵ (owns (T.the-row ∷ MutSlice (named 0) κm u8 ∷ MutSlice (named 1) κc u8 ∷ Array K.the-row 64 ∷ u64 ∷ []) a at) ∷ []) ∵
         enter ! C Λ code.function (machM h ∷ sm ∷ sc ∷ machKeys ks ∷ vint w64 n ∷ []) _ $
-        alloc1 ! (λ l₀.
-        alloc1 ! (λ l₁. alloc1 ! (λ l₂. alloc1 ! (λ l₃. alloc1 ! (λ l₄.
+        alloc1 ! (λ l₀. alloc1 ! (λ l₁. alloc1 ! (λ l₂. alloc1 ! (λ l₃. alloc1 ! (λ l₄.
         alloc1 ! (λ l₅. alloc1 ! (λ l₆. alloc1 ! (λ l₇. alloc1 ! (λ l₈.
         alloc1 ! (λ l₉. alloc1 ! (λ l₁₀. alloc1 ! (λ l₁₁. alloc1 ! (λ l₁₂.
         alloc1 ! (λ l₁₃. alloc1 ! (λ l₁₄. alloc1 ! (λ l₁₅. alloc1 ! (λ l₁₆. alloc0 ! $ params1 ! $
@@ -219,8 +225,7 @@ module _ {M : Type 1} (𝓤 : URA M) (H : Heap 𝓤) (A : Atoms 𝓤) (W : Given
         assigns ! (of-opd ! (load ! (from ! (stop !)) (look ! 1 refl))) (from ! (stop !)) (init ! 9 refl (LL.lawful T.the-type T′.the-laws 𝓤 H A W .typed (zs .0) _ x-is .0)) $
         assigns ! (agg ! (and-then ! (load ! (from ! (stop !)) (look ! 9 refl))
         (and-then ! (load ! (from ! (stop !)) (look ! 25 refl)) (no-more !)))) (from ! (stop !))
-        (init ! 39 refl (LL.lawful S.the-type S′.the-laws 𝓤 H A W .typed (record { machine = zs .0; number = m }) _
-        (LL.owes S.the-type S′.the-laws (record { machine = zs .0; number = m }) (x-is, ((refl, is .1), tt))) .0)) $
+        (init ! 39 refl (LL.lawful S.the-type S′.the-laws 𝓤 H A W .typed (made (zs .0) m) _ (made-is (zs .0) m x-is (is .1)) .0)) $
         returns ! (look ! 39 refl) $ forget ! 1 refl $ forget ! 2 refl $ forget ! 9 refl $ forget ! 11 refl $ forget ! 13 refl $ forget ! 15 refl $
         forget ! 17 refl $ forget ! 19 refl $ forget ! 21 refl $ forget ! 23 refl $ forget ! 25 refl $ forget ! 29 refl $ forget ! 31 refl $
         forget ! 33 refl $ forget ! 35 refl $ forget ! 37 refl $ forget ! 39 refl $
@@ -229,8 +234,7 @@ module _ {M : Type 1} (𝓤 : URA M) (H : Heap 𝓤) (A : Atoms 𝓤) (W : Given
         move ! (23 ∷ 24 ∷ []) $ free1 ! $ move ! (21 ∷ 22 ∷ []) $ free1 ! $ move ! (19 ∷ 20 ∷ []) $ free1 ! $ move ! (17 ∷ 18 ∷ []) $ free1 ! $
         move ! (15 ∷ 16 ∷ []) $ free1 ! $ move ! (13 ∷ 14 ∷ []) $ free1 ! $ move ! (11 ∷ 12 ∷ []) $ free1 ! $ move ! (9 ∷ 10 ∷ []) $ free1 ! $
         move ! (7 ∷ 8 ∷ []) $ free1 ! $ free0 ! $
-        keep ! (3 ∷ 2 ∷ 6 ∷ 4 ∷ []) $ by ! (exits (record { machine = zs .0; number = m }) (zs .1 .0) (zs .1 .1 .0) lm lc
-        (LL.owes S.the-type S′.the-laws (record { machine = zs .0; number = m }) (x-is, ((refl, is .1), tt))))))))))))))))))))))))))))))))
+        keep ! (3 ∷ 2 ∷ 6 ∷ 4 ∷ []) $ by ! (exits (made (zs .0) m) (zs .1 .0) (zs .1 .1 .0) lm lc (made-is (zs .0) m x-is (is .1)))))))))))))))))))))))))))))))
 
 module _ {M : Type 1} (𝓤 : URA M) (H : Heap 𝓤) (A : Atoms 𝓤) (W : Given 𝓤 H A) (at-mem : Memory → SProp 𝓤) (run : Routine → Fun 𝓤) (𝓣 : Tables 𝓤 H)
     (known : Triple 𝓤 (𝓣 .C #v9·single-step) (Step 𝓤 H A at-mem run)) where

@@ -306,8 +306,7 @@ module _ {M : Type 1} (𝓤 : URA M) (H : Heap 𝓤) (A : Atoms 𝓤) (W : Given
       qed W ((‵ (flft κm qm) ⊛ ‵ (flft κc qc) ⊛ ‵ (flft κk qk) ⊛ ‵ ftrue) ∷
       ‵ (owns (T.the-row ∷ MutSlice (named 0) κm u8 ∷ MutSlice (named 1) κc u8 ∷ ShrSlice (named 2) κk K.the-row ∷ u64 ∷ []) a at) ∷ []) ∵
       enter ! (𝓣 .C) (𝓣 .Λ) code.function (machM h ∷ sm ∷ sc ∷ sk ∷ vint w64 budget ∷ []) _ $
-      alloc1 ! (λ l₀.
-      alloc1 ! (λ l₁. alloc1 ! (λ l₂. alloc1 ! (λ l₃. alloc1 ! (λ l₄.
+      alloc1 ! (λ l₀. alloc1 ! (λ l₁. alloc1 ! (λ l₂. alloc1 ! (λ l₃. alloc1 ! (λ l₄.
       alloc1 ! (λ l₅. alloc1 ! (λ l₆. alloc1 ! (λ l₇. alloc1 ! (λ l₈.
       alloc1 ! (λ l₉. alloc1 ! (λ l₁₀. alloc1 ! (λ l₁₁. alloc1 ! (λ l₁₂.
       alloc1 ! (λ l₁₃. alloc1 ! (λ l₁₄. alloc1 ! (λ l₁₅. alloc1 ! (λ l₁₆. alloc0 ! $ params1 ! $

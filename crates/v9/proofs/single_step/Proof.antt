@@ -157,8 +157,7 @@ module _ {M : Type 1} (𝓤 : URA M) (H : Heap 𝓤) (A : Atoms 𝓤) (W : Given
     walk gm gc gk =
         qed W ((‵ (flft κ q) ⊛ Tokens 𝓤 H A call) ∷ ‵ (owns (MutRef (named 0) κ T.the-row ∷ MutSlice (named 1) κm u8 ∷ MutSlice (named 2) κc u8 ∷ ShrSlice
         (named 3) κk K.the-row ∷ []) a at) ∷ []) ∵ enter ! C Λ code.function (vptr b o ∷ sm ∷ sc ∷ sk ∷ []) _ $
-        alloc1 ! (λ l₀.
-        alloc1 ! (λ l₁. alloc1 ! (λ l₂. alloc1 ! (λ l₃. alloc1 ! (λ l₄.
+        alloc1 ! (λ l₀. alloc1 ! (λ l₁. alloc1 ! (λ l₂. alloc1 ! (λ l₃. alloc1 ! (λ l₄.
         alloc1 ! (λ l₅. alloc1 ! (λ l₆. alloc1 ! (λ l₇. alloc1 ! (λ l₈. alloc1 ! (λ l₉. alloc1 ! (λ l₁₀. alloc1 ! (λ l₁₁. alloc0 ! $ params1 ! $
         pass1 ! (init ! 20 refl (tt, tt)) $ pass1 ! (init ! 18 refl (tt, (tt, (record { fits = gm .0 }, tt)))) $
         pass1 ! (init ! 16 refl (tt, (tt, (record { fits = gc .0 }, tt)))) $ pass1 ! (init ! 14 refl (tt, (tt, (record { fits = gk .0 }, tt)))) $ pass0 ! $
