@@ -19,7 +19,8 @@ fn ab(a: u32, b: u32) -> Registers {
     Registers { a, b, ..Registers::default() }
 }
 
-/// P11's machine, its table word given: paging on, the program in page 1.
+/// P11's machine, its table word given: paging on, the program in page 1, so
+/// that its fetch goes through the directory word of the access.
 fn paged(table_word: u32, instruction: u32) -> Runs {
     let regs = Registers { pdir: 0x1000, paging: true, pc: 0x1800, ..ab(0x10, 0x10) };
     Runs::new(16_384, regs)
@@ -27,6 +28,30 @@ fn paged(table_word: u32, instruction: u32) -> Runs {
         .words(0x2000, &[table_word, 0x1007])
         .words(0x1800, &[instruction])
         .run(1)
+}
+
+/// The same with the program under another directory word, at 0x400100: its
+/// fetch marks the words at 0x1004 and 0, and neither word of the access.
+fn paged_apart(table_word: u32, instruction: u32) -> Runs {
+    let regs = Registers { pdir: 0x1000, paging: true, pc: 0x40_0100, ..ab(0x10, 0x10) };
+    Runs::new(16_384, regs)
+        .words(0, &[0x0007])
+        .words(0x100, &[instruction])
+        .words(0x1000, &[0x2007, 0x0007])
+        .words(0x2000, &[table_word])
+        .words(0x3010, &[0x1234_5678])
+        .run(1)
+}
+
+/// P11 and P12 with the marks of the access alone, and the fetch without an
+/// access. They are no cases of the stored set, which has P11 and P12 as below.
+pub fn marks_apart() -> Vec<(&'static str, Runs)> {
+    vec![
+        ("no access", paged_apart(0x3007, op("NOP", 0))),
+        ("P11 read", paged_apart(0x3007, op("LX", 0))),
+        ("P11 write", paged_apart(0x3007, op("SX", 0))),
+        ("P12", paged_apart(0x4007, op("LX", 0))),
+    ]
 }
 
 /// All worked lines with their names; P3, P4, P7 and P11 take several.

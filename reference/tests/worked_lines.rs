@@ -7,16 +7,19 @@ use reference::load::executable;
 use reference::machine::Machine;
 use reference::types::{Registers, Stop};
 use reference::words::get;
-use reference::worked::{op, worked_lines};
+use reference::worked::{marks_apart, op, worked_lines};
 
-fn case(name: &str) -> Runs {
-    let found = worked_lines().into_iter().find(|line| line.0 == name);
+fn case(lines: Vec<(&str, Runs)>, name: &str) -> Runs {
+    let found = lines.into_iter().find(|line| line.0 == name);
     found.unwrap_or_else(|| panic!("no {name}")).1
 }
 
 /// Both machines after all of a worked line's runs but the last `left`.
 fn after(name: &str, left: usize) -> [Machine; 2] {
-    let case = case(name);
+    ended(case(worked_lines(), name), left)
+}
+
+fn ended(case: Runs, left: usize) -> [Machine; 2] {
     let make = [Machine::buffered, Machine::table_reader];
     make.map(|make| {
         let mut machine = make(case.memory.clone(), case.console.clone(), &case.record);
@@ -110,6 +113,23 @@ fn p11_p12_walks() {
         assert_eq!(machine.regs.stop, Stop::Masked);
         assert_eq!(machine.regs.vadr, 0x10);
         assert_eq!(get(&machine.memory, 0x2000, 4), 0x4027);
+    }
+}
+
+/// The directory word and the table word of the access, and those of the fetch.
+fn words_apart(name: &str) -> [[u32; 4]; 2] {
+    ended(case(marks_apart(), name), 0)
+        .map(|machine| [0x1000, 0x2000, 0x1004, 0].map(|at| get(&machine.memory, at, 4)))
+}
+
+#[test]
+fn p11_p12_marks_of_the_access_itself() {
+    assert_eq!(words_apart("no access"), [[0x2007, 0x3007, 0x27, 0x27]; 2]);
+    assert_eq!(words_apart("P11 read"), [[0x2027, 0x3027, 0x27, 0x27]; 2]);
+    assert_eq!(words_apart("P11 write"), [[0x2027, 0x3067, 0x27, 0x27]; 2]);
+    assert_eq!(words_apart("P12"), [[0x2027, 0x4027, 0x27, 0x27]; 2]);
+    for machine in ended(case(marks_apart(), "P11 read"), 0) {
+        assert_eq!(machine.regs.a, 0x1234_5678);
     }
 }
 
