@@ -7,9 +7,4 @@ returns : tie.Need-returns
 returns c = rw (c .before .again .ensures, c .sum .ensures)
 
 pub again-both-spec : {M : Type 1} → statement M
-again-both-spec =
-    tie.close
-    (tie.spec
-    (λ c κs. search needs)
-    (λ c κs. search needs)
-    returns)
+again-both-spec = tie.close (tie.spec (λ c κs. search needs) (λ c κs. search needs) returns)

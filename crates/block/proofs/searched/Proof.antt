@@ -11,10 +11,4 @@ returns-2 : tie.Need-returns-2
 returns-2 c = rw (ne-eqb _ _ (c .before .if1 .left)) (c .again .ensures)
 
 pub searched-spec : {M : Type 1} → statement M
-searched-spec =
-    tie.close
-    (tie.spec
-    (λ c κs. search needs)
-    returns
-    (λ c κs. search needs)
-    returns-2)
+searched-spec = tie.close (tie.spec (λ c κs. search needs) returns (λ c κs. search needs) returns-2)

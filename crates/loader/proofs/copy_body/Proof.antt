@@ -34,10 +34,7 @@ copy-body-spec =
     Inv-loop
     μ-loop
     loop-holds
-    (λ c. search needs)
-    (λ c. omega arith)
-    (λ c. search needs)
-    (λ c. search needs)
+    (λ c. search needs) (λ c. omega arith) (λ c. search needs) (λ c. search needs)
     loop-again
     same-length
     returns)

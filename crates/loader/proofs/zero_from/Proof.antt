@@ -34,9 +34,7 @@ zero-from-spec =
     Inv-loop
     μ-loop
     loop-holds
-    (λ c. omega arith)
-    (λ c. search needs)
-    (λ c. omega arith)
+    (λ c. omega arith) (λ c. search needs) (λ c. omega arith)
     loop-again
     same-length
     returns)

@@ -137,9 +137,7 @@ advance-spec =
     (λ c κs. search needs)
     step-requires
     sub-t24
-    (λ c. search needs)
-    (λ c. search needs)
-    (λ c. search needs)
+    (λ c. search needs) (λ c. search needs) (λ c. search needs)
     returns
     add-instructions
     instructions-requires
@@ -156,6 +154,5 @@ advance-spec =
     returns-2
     after-requires-2
     sub-t25
-    (λ c. search needs)
-    (λ c. search needs)
+    (λ c. search needs) (λ c. search needs)
     returns-3)

@@ -36,8 +36,7 @@ load-spec =
     load4-requires
     (λ c. search needs)
     load2-requires
-    (λ c. search needs)
-    (λ c. search needs)
+    (λ c. search needs) (λ c. search needs)
     load1-requires
     (λ c. search needs)
     returns

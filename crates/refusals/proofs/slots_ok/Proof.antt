@@ -72,16 +72,13 @@ slots-ok-spec =
     μ-loop
     returns
     loop-holds
-    (λ c. search needs)
-    (λ c. search needs)
+    (λ c. search needs) (λ c. search needs)
     element-copy-out-e
     (λ c κs. search needs)
     returns-2
-    (λ c. search needs)
-    (λ c. omega arith)
+    (λ c. search needs) (λ c. omega arith)
     has-page-requires
     returns-3
-    (λ c. omega arith)
-    (λ c. search needs)
+    (λ c. omega arith) (λ c. search needs)
     loop-again
     returns-4)

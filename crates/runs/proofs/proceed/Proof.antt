@@ -221,6 +221,5 @@ proceed-spec =
     add-j
     loop2-less
     loop2-again
-    (λ c. search needs)
-    (λ c. search needs)
+    (λ c. search needs) (λ c. search needs)
     returns)

@@ -21,9 +21,7 @@ pub skip-some-spec : {M : Type 1} → statement M
 skip-some-spec =
     tie.close
     (tie.spec
-    (λ c κs. search needs)
-    (λ c κs. search needs)
-    (λ c. search needs)
+    (λ c κs. search needs) (λ c κs. search needs) (λ c. search needs)
     slice-aggregate-read-full
     (λ c κs. search needs)
     returns)

@@ -30,7 +30,6 @@ mark-spec =
     (λ c. search needs)
     div-if1
     add-mem
-    (λ c. search needs)
-    (λ c. search needs)
+    (λ c. search needs) (λ c. search needs)
     returns
     returns-2)

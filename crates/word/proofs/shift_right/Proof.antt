@@ -24,8 +24,7 @@ pub shift-right-spec : {M : Type 1} → statement M
 shift-right-spec =
     tie.close
     (tie.spec
-    (λ c κs. search needs)
-    (λ c. search needs)
+    (λ c κs. search needs) (λ c. search needs)
     shr-unsigned
     (λ c κs. search needs)
     returns)

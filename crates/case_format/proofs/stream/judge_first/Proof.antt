@@ -15,5 +15,4 @@ judge-first-spec =
     (tie.spec
     (λ c. search needs)
     slice-aggregate-judge
-    (λ c κs. search needs)
-    (λ c. search needs))
+    (λ c κs. search needs) (λ c. search needs))

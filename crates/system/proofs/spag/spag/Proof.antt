@@ -8,10 +8,4 @@ returns : tie.Need-returns
 returns c = λ m con g. spag-set _ (c .before .before .before .empty .ensures .0) (c .before .before .before .empty .ensures .1) g (c .set-space .ensures)
 
 pub spag-spec : {M : Type 1} → statement M
-spag-spec =
-    tie.close
-    (tie.spec
-    (λ c κs. search needs)
-    (λ c κs. search needs)
-    (λ c. search needs)
-    returns)
+spag-spec = tie.close (tie.spec (λ c κs. search needs) (λ c κs. search needs) (λ c. search needs) returns)
