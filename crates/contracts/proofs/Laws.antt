@@ -1,5 +1,5 @@
 -- Document 01, "Opcodes": one law for each shape of an instruction's tree: an access that is denied, an access that is granted and what follows,
--- an end. Assumes nothing.
+-- an end.
 use Prim.Native.Nat.{ℕ}
 use mathlib.Core.Bool.{Bool, true, false}
 use mathlib.Core.List.{List, [], _∷_, _++_}

@@ -1,4 +1,4 @@
--- Document 01, "One step" and "Traps": one law for each shape of a step's tree: an access, the two slots of a trap frame, an end. Assumes nothing.
+-- Document 01, "One step" and "Traps": one law for each shape of a step's tree: an access, the two slots of a trap frame, an end.
 use Prim.Native.Nat.{ℕ}
 use mathlib.Core.List.{List, [], _∷_}
 use mathlib.Core.Path.{_≡_, refl, sym, ap, _∙_}

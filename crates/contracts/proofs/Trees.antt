@@ -1,5 +1,5 @@
 -- Document 01, "One step" and "Addresses": trees of accesses, interpreted with the page buffer: an access that the code has translated, and one tree
--- after another. Assumes nothing.
+-- after another.
 use Prim.Native.Nat.{ℕ}
 use mathlib.Core.Bool.{Bool}
 use mathlib.Core.List.{List, _∷_, _++_, append-assoc}

@@ -1,4 +1,4 @@
--- Document 01, "Numbers returned": how each answer of a load follows from the tests before it. Assumes nothing.
+-- Document 01, "Numbers returned": how each answer of a load follows from the tests before it.
 use Prim.Native.Nat.{ℕ, _-_, _<_, _≤_}
 use mathlib.Core.Bool.{Bool, true, false, not}
 use mathlib.Core.Path.{_≡_}

@@ -1,4 +1,4 @@
--- Document 01, "Opcodes": laws of the arithmetic instructions and of the fetch. Assumes nothing.
+-- Document 01, "Opcodes": laws of the arithmetic instructions and of the fetch.
 use Prim.Native.Nat.{ℕ}
 use mathlib.Core.Bool.{Bool, true, false, _&&_}
 use mathlib.Core.List.{List}

@@ -1,5 +1,4 @@
 -- Document 01, refusal 4 ("key step numbers ever fall") and "One step", rule 2: the order of keys and the next key, at one place of the list.
--- Assumes nothing.
 use Prim.Native.Nat.{ℕ, suc, _<_, _≤_}
 use mathlib.Core.Bool.{Bool, true, false, _&&_, and-assoc, and-true}
 use mathlib.Core.List.{List}

@@ -1,4 +1,4 @@
--- Document 01, "The record and the loaded program", the keys in bytes: how many there are, and each of them. Assumes nothing.
+-- Document 01, "The record and the loaded program", the keys in bytes: how many there are, and each of them.
 use Prim.Native.Nat.{ℕ, zero, suc, _+_, _/_, _<_, _≤_}
 use mathlib.Core.List.{List}
 use mathlib.Core.Bool.{Bool, _&&_}

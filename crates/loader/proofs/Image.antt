@@ -1,4 +1,4 @@
--- Document 01, "The record and the loaded program": "Loading puts the body at address 0, zeros the rest", byte by byte. Assumes nothing.
+-- Document 01, "The record and the loaded program": "Loading puts the body at address 0, zeros the rest", byte by byte.
 use Prim.Native.Nat.{ℕ, zero, suc, _+_, _-_, _<_, _≤_}
 use mathlib.Core.List.{List, [], _∷_, _++_, append-nil}
 use mathlib.Core.Path.{_≡_, refl, sym, _∙_, ap}

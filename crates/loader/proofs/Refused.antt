@@ -1,4 +1,4 @@
--- Document 01, "Numbers returned": "A refused load returns an all-zero record and leaves memory", by the contract of `loader::load`. Assumes nothing.
+-- Document 01, "Numbers returned": "A refused load returns an all-zero record and leaves memory", by the contract of `loader::load`.
 use Prim.Native.Nat.{ℕ}
 use mathlib.Core.Path.{_≡_, ap}
 use mathlib.Core.List.{List}

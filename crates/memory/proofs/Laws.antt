@@ -1,4 +1,4 @@
--- Loads and stores, shown once over the width n in bytes. Document 01, "What is emulated": "Words are little-endian". Assumes nothing.
+-- Loads and stores, shown once over the width n in bytes. Document 01, "What is emulated": "Words are little-endian".
 use Prim.Native.Nat.{ℕ, zero, suc, _+_, _*_, _/_, _%_, _^_, _≤_, _<_}
 use mathlib.Core.List.{List}
 use mathlib.Core.Logic.{_⊎_, inl, inr, ⊎-elim}

@@ -1,4 +1,4 @@
--- Loads and stores at a size that a match has told. Assumes nothing.
+-- Loads and stores at a size that a match has told.
 use Prim.Native.Nat.{ℕ, _+_, _≤_}
 use mathlib.Core.List.{List}
 use mathlib.Core.Path.{_≡_}

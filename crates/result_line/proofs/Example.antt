@@ -1,4 +1,4 @@
--- Document 01, "Worked lines": "P1 and HALT .. prints whole: `stop 1 steps 3 a 9600000 b 0 c 0 sp 32768 pc 12`". Assumes nothing.
+-- Document 01, "Worked lines": "P1 and HALT .. prints whole: `stop 1 steps 3 a 9600000 b 0 c 0 sp 32768 pc 12`".
 use Prim.Native.Nat.{ℕ}
 use mathlib.Core.Path.{_≡_, refl}
 use mathlib.Core.List.{List, [], _∷_}

@@ -1,4 +1,4 @@
--- The line of a load, and of its run. Assumes nothing.
+-- The line of a load, and of its run.
 use Prim.Native.Nat.{ℕ}
 use mathlib.Core.List.{List, []}
 use mathlib.Core.Path.{_≡_, refl, sym, _∙_, ap, subst}

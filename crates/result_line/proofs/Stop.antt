@@ -1,4 +1,4 @@
--- The seven names with their numbers fit a line of 169 bytes, and are its text. Assumes nothing.
+-- The seven names with their numbers fit a line of 169 bytes, and are its text.
 use Prim.Native.Nat.{ℕ, _+_, _≤_}
 use mathlib.Core.List.{List}
 use mathlib.Core.Path.{_≡_}

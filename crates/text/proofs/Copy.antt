@@ -1,4 +1,4 @@
--- Bytes written into a line one by one. Assumes nothing.
+-- Bytes written into a line one by one.
 use Prim.Native.Nat.{ℕ, _+_, _<_, _≤_}
 use mathlib.Core.List.{List, [], _∷_, _++_}
 use mathlib.Core.Path.{_≡_, refl, _∙_, ap}

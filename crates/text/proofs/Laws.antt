@@ -1,5 +1,4 @@
 -- What holds of a number's digits: at most 20, one for each step of the recursion; and of texts written one after another.
--- Assumes nothing.
 use Prim.Native.Nat.{ℕ, zero, suc, _/_, _%_, _^_, _<_, _≤_}
 use mathlib.Core.Bool.{Bool, true, false}
 use mathlib.Core.List.{List, [], _∷_, _++_, append-assoc}

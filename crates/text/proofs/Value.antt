@@ -1,4 +1,4 @@
--- Document 01, "Worked lines": a number's digits read back give the number, and the first is 0 only for 0. Assumes nothing.
+-- Document 01, "Worked lines": a number's digits read back give the number, and the first is 0 only for 0.
 use Prim.Native.Nat.{ℕ, zero, suc, _+_, _-_, _*_, _/_, _%_, _^_, _<_, _≤_}
 use mathlib.Core.Bool.{Bool, true, false}
 use mathlib.Core.List.{List, [], _∷_, _++_}

@@ -1,4 +1,4 @@
--- Document 01, "Opcodes": "S and C forms extend the sign, H and B don't", at a format that a match has told. Assumes nothing.
+-- Document 01, "Opcodes": "S and C forms extend the sign, H and B don't", at a format that a match has told.
 use Prim.Native.Nat.{ℕ, _+_, _≤_}
 use mathlib.Core.List.{List}
 use mathlib.Core.Path.{_≡_}

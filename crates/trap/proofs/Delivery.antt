@@ -1,4 +1,4 @@
--- Document 01, "Traps": a delivery, a stop and a fault end as their trees say. One law for each `return`. Assumes nothing.
+-- Document 01, "Traps": a delivery, a stop and a fault end as their trees say. One law for each `return`.
 use Prim.Native.Nat.{ℕ}
 use mathlib.Core.Bool.{true, false}
 use mathlib.Core.List.{List}

@@ -1,5 +1,5 @@
 -- Document 01, "Numbers returned": "A refused run returns the record given and zero steps; memory and console keep their bytes", of each entry, by its
--- contract; and "accepted with zero steps and no change". Assumes nothing.
+-- contract; and "accepted with zero steps and no change".
 use Prim.Native.Nat.{ℕ}
 use mathlib.Core.Path.{_≡_, refl, _∙_, ap}
 use mathlib.Core.Bool.{false}

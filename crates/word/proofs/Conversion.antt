@@ -1,4 +1,4 @@
--- The signed reading of a word, and its way through locals of type i32, which hold bits. Document 01, "Opcodes". Assumes nothing.
+-- The signed reading of a word, and its way through locals of type i32, which hold bits. Document 01, "Opcodes".
 use Prim.Native.Nat.{ℕ, suc, _-_}
 use mathlib.Core.Path.{_≡_, refl, sym, ap, _∙_, subst}
 use mathlib.Core.Bool.{true, false}

@@ -1,5 +1,5 @@
 -- Quotient and remainder. Document 01, "Opcodes": "The quotient is cut toward zero and the remainder takes the sign of the dividend; -2^31
--- by -1 gives 0x80000000 and 0." Assumes nothing.
+-- by -1 gives 0x80000000 and 0."
 use Prim.Native.Nat.{ℕ, zero, suc, _*_, _/_, _%_, _^_, _≤_, _<_}
 use mathlib.Core.Path.{_≡_, refl, sym, ap, _∙_}
 use mathlib.Core.Bool.{true, false, _&&_}

@@ -1,5 +1,4 @@
 -- Sign extension, once over the width. Document 01, "Opcodes": "S and C forms extend the sign", "The upper 24 are imm, signed".
--- Assumes nothing.
 use Prim.Native.Nat.{ℕ, zero, suc, _+_, _*_, _-_, _^_, _≤_, _<_}
 use mathlib.Core.Path.{_≡_, refl}
 use mathlib.Core.Bool.{Bool, true, false}

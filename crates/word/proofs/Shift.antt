@@ -1,5 +1,4 @@
 -- Shifts. Document 01, "Opcodes": "Shift counts are taken modulo 32", so that SHR gives the floor of a / 2 ^ (count modulo 32).
--- Assumes nothing.
 use Prim.Native.Nat.{ℕ, suc, _+_, _*_, _-_, _/_, _%_, _^_, _<_}
 use mathlib.Core.Path.{_≡_, ap}
 use native.Mathlib.Nat.{div-add-mod', mod-lt, suc-mul, lt-of-le-of-lt}
