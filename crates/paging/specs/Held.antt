@@ -16,7 +16,7 @@ heldAfter hs (marked a ∷ es) = heldAfter hs es
 heldAfter hs (stored a n ∷ es) = heldAfter hs es
 heldAfter hs (delivered c ∷ es) = heldAfter hs es
 
--- a store of n bytes at a "writes any byte of a word", the one at w
+-- a store of n bytes at a "writes any byte of a word", the one at w, "even with the same value": the event says where, not what
 unfoldable pub touches : ℕ → ℕ → ℕ → Bool
 touches a n w = ltb a (w + 4) && ltb w (a + n)
 
