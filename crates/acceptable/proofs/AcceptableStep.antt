@@ -154,7 +154,8 @@ keyed-listed keys k true t more h = omega (arith, more refl)
 keyed-listed keys k false t more h = h
 
 -- the record after them
-ticked-acceptable : {size keys consoleSize : ℕ} (k : Next) (c : Cpu) → (k .some ≡ true → c .clock .taken < keys) → Acceptable size keys consoleSize c → Acceptable size keys consoleSize (ticked k c)
+ticked-acceptable : {size keys consoleSize : ℕ} (k : Next) (c : Cpu) → (k .some ≡ true → c .clock .taken < keys)
+    → Acceptable size keys consoleSize c → Acceptable size keys consoleSize (ticked k c)
 unfolding ticked
 ticked-acceptable {keys = keys} k c more g =
     let l = keyed-listed keys k (keyComes k c) (c .clock) (λ e. more (both (k .some) (leb (k .step) (c .regs .count + 1)) e .0)) (g .passes .listed) in

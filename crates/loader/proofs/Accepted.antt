@@ -54,7 +54,8 @@ module _ (file m : List ℕ) {a : LoadAnswer} {n : ℕ} (p : a ≡ loadAnswer (l
     accepted-file = loadable (length m) file (sym p ∙ accepting a (sym q ∙ z))
 
     -- and is
-    pub accepted : {c : Cpu} {r : Machine} {x : ℕ} {m′ : List ℕ} → m′ ≡ image (length m) (bodyOf file) → x ≡ entryOf file → c ≡ cpuWith (length m) x 0xffffffff → r ≡ emptyMachine c
+    pub accepted : {c : Cpu} {r : Machine} {x : ℕ} {m′ : List ℕ} → m′ ≡ image (length m) (bodyOf file) → x ≡ entryOf file
+        → c ≡ cpuWith (length m) x 0xffffffff → r ≡ emptyMachine c
         → LoadsAs file m (record { answer = a; machine = r }) m′
     unfolding load
     accepted {r = r} f x d e = as-ruled file m (record { answer = a; machine = r }) (rw (f, e, d, x, ← p, accepting a (sym q ∙ z)))

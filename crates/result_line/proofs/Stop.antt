@@ -25,8 +25,9 @@ pub within-fits : {l : List ℕ} {r u : ℕ} (k : ℕ) → u + k + 20 ≤ 169 �
 within-fits k h w = omega (arith, w .size, w .used, h)
 
 -- the line
-pub stop-shows : (g : Regs) {s x steps : ℕ} {l₀ l₁ l₂ l₃ l₄ l₅ l₆ l₇ : List ℕ} {r₁ r₂ r₃ r₄ r₅ r₆ r₇ : ℕ} → s ≡ x → Named stopName s l₀ 0 l₁ r₁ → Named stepsName steps l₁ r₁ l₂ r₂
-    → Named aName (g .a) l₂ r₂ l₃ r₃ → Named bName (g .b) l₃ r₃ l₄ r₄ → Named cName (g .c) l₄ r₄ l₅ r₅ → Named spName (g .sp) l₅ r₅ l₆ r₆ → Named pcName (g .pc) l₆ r₆ l₇ r₇
+pub stop-shows : (g : Regs) {s x steps : ℕ} {l₀ l₁ l₂ l₃ l₄ l₅ l₆ l₇ : List ℕ} {r₁ r₂ r₃ r₄ r₅ r₆ r₇ : ℕ}
+    → s ≡ x → Named stopName s l₀ 0 l₁ r₁ → Named stepsName steps l₁ r₁ l₂ r₂ → Named aName (g .a) l₂ r₂ l₃ r₃ → Named bName (g .b) l₃ r₃ l₄ r₄
+    → Named cName (g .c) l₄ r₄ l₅ r₅ → Named spName (g .sp) l₅ r₅ l₆ r₆ → Named pcName (g .pc) l₆ r₆ l₇ r₇
     → Shows (stopLine x steps g) l₇ r₇
 unfolding stopLine
 stop-shows g e v w a b c sp pc =

@@ -27,7 +27,8 @@ fn moved(c: Cpu) -> Cpu
 
 // A byte is appended to the console, if there is room. c has pc moved on; memory and page buffer stay.
 fn bout(c: Cpu, console: &mut [u8]) -> Cpu
-    ensures { λ x. ⌜ ((m l : List ℕ) → Good (length m) (c .space .pdir) l → Finishes (boutTree (length (now (console .entry))) c) c m (now (console .entry)) l x m (now (console .exit)) l) ⌝ }
+    ensures { λ x. ⌜ ((m l : List ℕ) → Good (length m) (c .space .pdir) l
+        → Finishes (boutTree (length (now (console .entry))) c) c m (now (console .entry)) l x m (now (console .exit)) l) ⌝ }
 {
     let n = c.written;
     if n < console.len() {

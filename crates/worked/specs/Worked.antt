@@ -203,7 +203,8 @@ P12-holds = (tt, tt)
 
 abbrev pub lines : List Line
 lines =
-    P1 ∷ P2 ∷ P3-DIV ∷ P3-MOD ∷ P3-DVU ∷ P4-SHRI-31 ∷ P4-SRUI-31 ∷ P4-SHRI-32 ∷ P5 ∷ P6 ∷ P7-GE ∷ P7-BGE ∷ P8 ∷ P9 ∷ P10-two ∷ P10-three ∷ P11-read ∷ P11-write ∷ P11-read-write ∷ P12 ∷ []
+    P1 ∷ P2 ∷ P3-DIV ∷ P3-MOD ∷ P3-DVU ∷ P4-SHRI-31 ∷ P4-SRUI-31 ∷ P4-SHRI-32 ∷ P5 ∷ P6 ∷ P7-GE ∷ P7-BGE
+    ∷ P8 ∷ P9 ∷ P10-two ∷ P10-three ∷ P11-read ∷ P11-write ∷ P11-read-write ∷ P12 ∷ []
 
 -- P1 to P12, each in both machines
 pub worked : Hold lines
