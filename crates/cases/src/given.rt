@@ -52,7 +52,7 @@ fn entries_at(s: &[u8]) -> [Entry; 64] {
 pub fn machine_of(s: &[u8]) -> Machine {
     let taken = long(s, 40) as usize;
     let written = long(s, 48) as usize;
-    let cpu = rules::numbers::record_of(numbers_at(s), taken, written);
+    let cpu = record_numbers::record_of(numbers_at(s), taken, written);
     let entries = entries_at(s);
     let held = place(s, 20);
     Machine { cpu, entries, held }

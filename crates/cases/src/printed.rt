@@ -35,7 +35,7 @@ fn record(out: &mut [u8], at: usize, m: Machine) -> usize {
     let c = m.cpu;
     let head = [c.clock.taken as u64, c.written as u64, NUMBERS as u64];
     let p = numbers(out, at, &head);
-    let values = rules::numbers::numbers_of(c);
+    let values = record_numbers::numbers_of(c);
     let p = numbers(out, p, &values);
     let entries = m.entries;
     buffer(out, p, entries, m.held)

@@ -10,5 +10,5 @@ pub mod SoundStep
 pub mod AcceptableRecord
 pub mod AcceptedRun
 mod InterruptFrame
-pub mod NoSteps
 pub mod StepCount
+pub mod NoSteps

@@ -101,5 +101,5 @@ module _ {size consoleSize : ℕ} {P : Final → Type 0} {G : Cpu → Type 0} (O
   -- something is due, or nothing; c is the record after rules 1 to 3
   pub every-step : (due : Option ℕ) (c : Cpu) → G c → Leaves O (instructionTree (c .regs)) → Leaves P (dueTree due size consoleSize c)
   unfolding dueTree
-  every-step (some code) c g i = shapes .delivers (awake c) code (c .regs .pc) (shapes .on-awake c g)
+  every-step (some code) c g i = shapes .delivers (awake c) code _ (shapes .on-awake c g)
   every-step none c g i = leaves-if (c .system .waiting) (shapes .waits c g) (leaves-then (settleTree size consoleSize c) i (every-settle c g))

@@ -5,8 +5,6 @@ ghost use Rattle.rules.specs.Run.{runNumber, isAccepted};
 use paging::Entry;
 use paging::Space;
 
-pub mod numbers;
-
 // What ordinary instructions change, and the step count.
 pub struct Regs {
     pub a: u32,

@@ -1,8 +1,8 @@
 -- The tests of the code are those of `stopOf`, in the same order.
 use borrow.Author.Tests.{ne-eqb}
 use Rattle.rules.specs.Numbers.{stopOf}
-use Rattle.rules.proofs.numbers.stop_of.Statement.{statement}
-use Rattle.rules.proofs.numbers.stop_of.Tie as tie
+use Rattle.record_numbers.proofs.stop_of.Statement.{statement}
+use Rattle.record_numbers.proofs.stop_of.Tie as tie
 
 returns : tie.Need-returns
 unfolding stopOf

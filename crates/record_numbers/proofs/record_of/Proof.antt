@@ -1,8 +1,8 @@
 -- Each number is cut to its width, as `recordBy` does; the stop reason is `stop_of`'s.
 use borrow.Author.Needs.{needs}
 use Rattle.rules.specs.Numbers.{recordBy}
-use Rattle.rules.proofs.numbers.record_of.Statement.{statement}
-use Rattle.rules.proofs.numbers.record_of.Tie as tie
+use Rattle.record_numbers.proofs.record_of.Statement.{statement}
+use Rattle.record_numbers.proofs.record_of.Tie as tie
 
 returns : tie.Need-returns
 unfolding recordBy

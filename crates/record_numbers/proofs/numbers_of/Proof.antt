@@ -1,7 +1,7 @@
 -- The flags and the stop reason are numbers by their own functions; the rest is the record's.
 use borrow.Author.Needs.{needs}
-use Rattle.rules.proofs.numbers.numbers_of.Statement.{statement}
-use Rattle.rules.proofs.numbers.numbers_of.Tie as tie
+use Rattle.record_numbers.proofs.numbers_of.Statement.{statement}
+use Rattle.record_numbers.proofs.numbers_of.Tie as tie
 
 returns : tie.Need-returns
 returns c =

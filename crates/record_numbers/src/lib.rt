@@ -1,15 +1,15 @@
 // Document 01, "The record and the loaded program": the record as one list of numbers, in the order of its sentences; keys taken and console bytes written
 // stand beside it.
 ghost use mathlib.Core.Path.{_≡_};
 ghost use Rattle.rules.specs.Arithmetic.{flag};
 ghost use Rattle.rules.specs.Numbers.{numbersOf, stopOf, recordOfLow};
-use crate::Clock;
-use crate::Cpu;
-use crate::Regs;
-use crate::Stop;
-use crate::System;
-use crate::stop_number;
 use paging::Space;
+use rules::Clock;
+use rules::Cpu;
+use rules::Regs;
+use rules::Stop;
+use rules::System;
+use rules::stop_number;
 
 // A flag as a number.
 fn flag(b: bool) -> u64
