@@ -22,6 +22,8 @@ use Rattle.rules.specs.Trap.{Final, final, ended, setSpace, print, nextP
 
 -- ---- those that change the record and nothing else; c has pc moved on, size is M
 
+-- "SSP and SUSP set ksp and usp"; "BIN: a = kbchar, then kbchar = 0xFFFFFFFF"; "TIME with imm not 0 does nothing"; "IDLE: waiting = iena"; "HALT stops with 1,
+-- pc after it"
 abbrev pub computed : ℕ → PlainOp → Cpu → Cpu
 computed size Halt c = withStop Halted c
 computed size Cli c = putA (flag (c .system .iena)) (withSystem (withIena false (c .system)) c)
