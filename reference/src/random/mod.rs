@@ -2,6 +2,7 @@
 
 pub mod executables;
 pub mod files;
+mod interrupts;
 pub mod keys;
 pub mod program;
 pub mod record;

@@ -6,7 +6,7 @@ use super::space::{bits, Space};
 use super::values::number;
 use crate::opcodes::decode::{decode, Base, Op, Reg, Source, System};
 use crate::opcodes::kinds::can_fault_in_kernel;
-use crate::opcodes::sets::{code_of, name_of, ILLEGAL, LEGAL};
+use crate::opcodes::sets::{code_of, name_of, LEGAL};
 use crate::types::PAGE;
 use crate::words::instruction;
 
@@ -62,14 +62,14 @@ impl Writer<'_> {
         }
     }
 
-    fn pick_op(&mut self, names: &[&str]) {
+    pub fn pick_op(&mut self, names: &[&str]) {
         let code = code_of(self.rng.pick(names));
         self.suited(code);
     }
 
     /// One gesture of a program.
     pub fn gesture(&mut self) {
-        match self.rng.weighted(&[36, 12, 8, 8, 6, 9, 6, 4, 4, 2, 8, 2, 2]) {
+        match self.rng.weighted(&[36, 12, 8, 8, 6, 9, 6, 4, 4, 2, 8, 2, 2, 4]) {
             0 => self.legal(),
             1 => self.pointed_store(),
             2 => self.pointed_load(),
@@ -82,7 +82,8 @@ impl Writer<'_> {
             9 => self.sweep(),
             10 => self.arithmetic(),
             11 => self.block_on_tables(),
-            _ => self.faulting(),
+            12 => self.faulting(),
+            _ => self.masked_stretch(),
         }
     }
 
@@ -214,30 +215,6 @@ impl Writer<'_> {
         self.constant(Reg::A, value);
         let imm = if self.rng.percent(15) { self.rng.between(-1, 1) } else { 0 };
         self.op(name, imm);
-    }
-
-    fn trapping(&mut self) {
-        match self.rng.below(5) {
-            0 => {
-                let code = self.rng.pick(&ILLEGAL);
-                self.suited(code);
-            }
-            1 => self.pick_op(&["DIV", "MOD", "DVUI", "MDUL", "DIVL"]),
-            _ => self.pick_op(&["TRAP", "STI", "STI", "CLI", "IDLE"]),
-        }
-    }
-
-    /// Pushes a pc and a code, as a trap would, and returns from it.
-    fn return_from_trap(&mut self) {
-        let near = self.space.code as i32 + 0x400 + 4 * self.rng.between(0, 40);
-        let target = if self.rng.percent(85) { near } else { self.space.address(self.rng) as i32 };
-        if self.rng.percent(20) {
-            return self.op("RTI", 0);
-        }
-        self.op("PSHI", target);
-        let code = self.rng.pick(&[0, 3, 9, 16, 16, 19, 25, 0x37, -1]);
-        self.op("PSHI", code);
-        self.op("RTI", 0);
     }
 
     /// Goes over many pages, one after the other, by a.
