@@ -1,5 +1,5 @@
 //! Mistakes that can be planted in the machine: document 01's five slips, other
-//! readings of open points, slips in each clause. The rules never make one; the
+//! readings of open points, rules that a later document ended, slips in each clause. The rules never make one; the
 //! `mutants` command and the tests plant them to show that the cases tell them
 //! apart.
 
@@ -52,7 +52,6 @@ mistakes! {
     KernelSetsUsp: "delivery from kernel mode sets usp and takes ksp",
     IenaKept: "delivery leaves iena",
     // The clock.
-    TimerOverKey: "a timer event wins over a key",
     TimeRestartsTimer: "TIME sets timer to 0",
     KeyByOldCount: "a key is due by the count of before the step",
     KbcharSigned: "kbchar extends the key's sign",
@@ -65,6 +64,32 @@ mistakes! {
     TimerAtTimeoutOnly: "the timer runs out only at timeout exactly",
     TimerSigned: "timer and timeout are signed",
     CycLow31: "CYC drops bit 31",
+    // The marks of keys and timer. Document 02, item 1.
+    MaskedSetsNothing: "what comes while iena = 0 sets no mark",
+    MaskedKeySetsNothing: "a key taken while iena = 0 sets no mark",
+    MaskedTimerSetsNothing: "a timer event while iena = 0 sets no mark",
+    TimerLostBesideKey: "a timer event beside a key sets no mark",
+    TimerMarkFirst: "of two marks the timer's is due first",
+    DeliveryClearsBoth: "an interrupt's delivery clears both marks",
+    DeliveryKeepsMark: "an interrupt's delivery leaves its mark",
+    StopClearsMark: "a stop with 3 on an interrupt clears its mark",
+    MaskedStopClearsMarks: "a stop with 2 clears the marks",
+    MarksUndoneOnStop: "a stop with 2 or 3 undoes the marks of the step's events",
+    BinClearsMark: "BIN clears the key's mark",
+    TimeClearsMark: "TIME clears the timer's mark",
+    RtiClearsMarks: "RTI clears the marks",
+    MarkDueMasked: "a mark is due though iena = 0",
+    StiDeliversAtOnce: "STI and RTI deliver a mark in their own step",
+    StiDelaysMark: "a mark is due only after the instruction that follows STI",
+    MaskedMarkWakes: "a mark ends waiting though iena = 0",
+    WaitAsksEvent: "waiting ends by an event of the step and by no mark before it",
+    MarkAsksTimeout: "the timer's mark is due only while timeout is not 0",
+    MarkAsksKey: "the key's mark is due only while kbchar has a key",
+    EventFlipsMark: "an event while its mark is set clears it",
+    MarkedKeyWaits: "no key is taken while the key's mark is set",
+    MarkedKeyDropped: "a key taken while the key's mark is set leaves kbchar",
+    MarkedTimerStands: "the timer stands still while its mark is set",
+    MarksLastARun: "a run begins without marks",
     // Addresses.
     BlockTranslatesFirst: "MCPY, MCMP translate a before b's byte is read",
     MarksAfterStore: "a walk's marks come after the store",
@@ -154,6 +179,7 @@ mistakes! {
     TakenLowHalf: "keys taken are judged by their low half",
     WrittenLowHalf: "the console count is judged by its low half",
     BudgetLowHalf: "the budget is judged by its low half",
+    MarksJudged: "a record with iena = 1 and a mark is refused with 2",
     StopsFreeFrom2: "a machine stopped with 2 goes on",
     DataStartSigned: "data start is signed",
     BssCounts: "bss counts to the body's length",

@@ -27,6 +27,10 @@ impl Machine {
             if self.regs.stop == Stop::Masked && self.makes(Mistake::StopsFreeFrom2) {
                 self.regs.stop = Stop::Running;
             }
+            if self.makes(Mistake::MarksLastARun) {
+                self.regs.key_pending = false;
+                self.regs.timer_pending = false;
+            }
             while left > 0 && self.regs.stop == Stop::Running {
                 self.step(keys);
                 left -= 1;
@@ -81,9 +85,11 @@ impl Machine {
         };
         let even_pdir = self.pick(Mistake::LooseField(5), regs.pdir % 2048, regs.pdir % PAGE) == 0;
         let beyond = regs.pdir as usize >= self.memory.len();
+        let marked = regs.iena && (regs.key_pending || regs.timer_pending);
         multiples.into_iter().enumerate().any(uneven)
             || (!even_pdir && judged)
             || (beyond && judged)
+            || (marked && self.makes(Mistake::MarksJudged))
             || (regs.count >= 1 << 63 && !self.makes(Mistake::UnjudgedField(5)))
     }
 

@@ -1,4 +1,4 @@
-//! One step. Document 01, "One step".
+//! One step. Document 01, "One step"; document 02, item 1, on the marks.
 
 use crate::machine::Machine;
 use crate::mistake::Mistake;
@@ -15,9 +15,10 @@ impl Machine {
             self.deliver(trap, self.regs.pc);
         } else if !self.regs.waiting {
             self.instruction();
+            self.misread_opening(&start);
         }
         self.misread_stop(&start);
-        self.coverage.step();
+        self.coverage.step(&start, &self.regs);
     }
 
     /// Fetch at pc; pc moves 4 on; execute. A faulting instruction leaves the
@@ -65,6 +66,16 @@ impl Machine {
             || self.makes(Mistake::FaultOwnPc(self.opcode))
     }
 
+    /// Planted mistake only: a mark delivered in the step that sets iena.
+    fn misread_opening(&mut self, start: &Registers) {
+        let opened = !start.iena && self.regs.iena;
+        if opened && self.makes(Mistake::StiDeliversAtOnce) {
+            if let Some(trap) = self.due() {
+                self.deliver(trap, self.regs.pc);
+            }
+        }
+    }
+
     /// Planted mistakes only: other readings of what a stop leaves.
     fn misread_stop(&mut self, start: &Registers) {
         if !matches!(self.regs.stop, Stop::Masked | Stop::NoFrame) {
@@ -80,6 +91,25 @@ impl Machine {
         }
         if self.makes(Mistake::StopForgetsVadr) && self.regs.stop == Stop::Masked {
             self.regs.vadr = start.vadr;
+        }
+        self.misread_stopped_marks(start);
+    }
+
+    /// Planted mistakes only: marks that a stop would not keep.
+    fn misread_stopped_marks(&mut self, start: &Registers) {
+        if self.makes(Mistake::MarksUndoneOnStop) {
+            self.regs.key_pending = start.key_pending;
+            self.regs.timer_pending = start.timer_pending;
+        }
+        match (self.regs.stop, self.due()) {
+            (Stop::Masked, _) if self.makes(Mistake::MaskedStopClearsMarks) => {
+                self.regs.key_pending = false;
+                self.regs.timer_pending = false;
+            }
+            (Stop::NoFrame, Some(trap)) if self.makes(Mistake::StopClearsMark) => {
+                self.clear_mark(trap);
+            }
+            _ => {}
         }
     }
 }

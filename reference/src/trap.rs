@@ -1,5 +1,5 @@
 //! Traps: a fault with iena = 0 stops; delivery stores the frame and enters
-//! the kernel. Document 01, "Traps".
+//! the kernel. Document 01, "Traps"; document 02, item 1, on the marks.
 
 use crate::coverage::Storer;
 use crate::machine::Machine;
@@ -44,6 +44,17 @@ impl Machine {
         self.regs.sp = code_slot;
         self.regs.iena = self.makes(Mistake::IenaKept);
         self.regs.pc = self.regs.ivec;
+        self.clear_mark(trap);
+    }
+
+    /// An interrupt's delivery clears its own mark; a fault has none.
+    pub fn clear_mark(&mut self, trap: Trap) {
+        if self.makes(Mistake::DeliveryKeepsMark) {
+            return;
+        }
+        let both = trap.is_interrupt() && self.makes(Mistake::DeliveryClearsBoth);
+        self.regs.key_pending &= trap != Trap::Fkeybd && !both;
+        self.regs.timer_pending &= trap != Trap::Ftimer && !both;
     }
 
     /// A slot's physical address; a refusal stops and doesn't set vadr.

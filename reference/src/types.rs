@@ -1,4 +1,5 @@
-//! The record of document 01, "The record and the loaded program".
+//! The record of document 01, "The record and the loaded program", with what
+//! document 02 adds to it.
 
 /// Bytes of a page, the unit of M, pdir and frames.
 pub const PAGE: u32 = 4096;
@@ -90,6 +91,9 @@ pub struct Registers {
     pub keys: u64,
     /// Console bytes written.
     pub written: u64,
+    /// Interrupts that await delivery: document 02, item 1, calls them marks.
+    pub key_pending: bool,
+    pub timer_pending: bool,
 }
 
 /// The physical addresses of the two words a walk read.

@@ -7,9 +7,10 @@ use reference::types::NO_KEY;
 #[test]
 fn keys_are_due_by_the_raised_count() {
     let due = after("key by the raised count");
-    assert_eq!((due.regs().kbchar, due.regs().keys), (65, 1));
+    assert_eq!((due.regs().kbchar, due.regs().keys, due.regs().key_pending), (65, 1, true));
     let later = after("key not yet due");
     assert_eq!((later.regs().kbchar, later.regs().keys), (NO_KEY, 0));
+    assert!(!later.regs().key_pending);
     assert_eq!(after("key 0xff").regs().kbchar, 255);
     for (name, keys) in [
         ("key due in the high half alone", 0),
@@ -29,14 +30,6 @@ fn one_key_a_step() {
     assert_eq!((first.regs().kbchar, first.regs().keys), (8, 2));
     let second = after("keys go on in the next run");
     assert_eq!((second.regs().kbchar, second.regs().keys), (9, 3));
-}
-
-#[test]
-fn what_comes_masked_raises_nothing_later() {
-    let key = after("a masked key raises nothing later");
-    assert_eq!((key.regs().pc, key.regs().iena, key.regs().kbchar), (0x10c, true, 65));
-    let timer = after("a masked timer raises nothing later");
-    assert_eq!((timer.regs().pc, timer.regs().iena, timer.regs().timer), (0x108, true, 1));
 }
 
 #[test]
@@ -62,10 +55,11 @@ fn the_timer_passes_timeout() {
 }
 
 #[test]
-fn a_key_comes_before_the_timer_which_is_lost() {
+fn a_key_comes_before_the_timer_whose_mark_stays() {
     let after = after("key before timer");
     after.delivered(0xf00, 2, 0x100);
-    assert_eq!(after.regs().timer, 0);
+    assert_eq!((after.regs().timer, after.regs().timer_pending), (0, true));
+    assert!(!after.regs().key_pending);
 }
 
 #[test]
@@ -88,6 +82,7 @@ fn waiting() {
     assert_eq!((masked.regs().pc, masked.regs().count), (0x100, 6));
     // Timer 1, 2, 3, then 0, 1, 2.
     assert_eq!((masked.regs().timer, masked.regs().kbchar), (2, 5));
+    assert!(masked.regs().key_pending && masked.regs().timer_pending);
     let idle = after("IDLE with iena = 0");
     assert!(!idle.regs().waiting);
     assert_eq!(idle.regs().pc, 0x104);

@@ -56,6 +56,8 @@ fn every_field_comes_back() {
         count: 1 << 40,
         keys: 1 << 41,
         written: 1 << 42,
+        key_pending: true,
+        timer_pending: false,
     };
     let mut runs = Runs::new(8192, regs)
         .bytes(100, &[1, 2, 0, 0, 3])

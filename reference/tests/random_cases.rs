@@ -84,3 +84,15 @@ fn buffers_lists_and_budgets_vary() {
         assert!(count(|runs| runs.memory.len() == length) > 2, "{length}");
     }
 }
+
+#[test]
+fn marks_stand_in_every_setting() {
+    for (iena, waiting) in [(false, false), (false, true), (true, false), (true, true)] {
+        let set =
+            |runs: &Runs| (runs.record.regs.iena, runs.record.regs.waiting) == (iena, waiting);
+        let least = if waiting { 2 } else { 100 };
+        let keys = count(|runs| set(runs) && runs.record.regs.key_pending);
+        let timers = count(|runs| set(runs) && runs.record.regs.timer_pending);
+        assert!(keys > least && timers > least, "{iena} {waiting}: {keys} and {timers}");
+    }
+}

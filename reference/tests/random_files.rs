@@ -51,10 +51,15 @@ fn accepted_ones_reach_traps_paging_and_a_full_console() {
         coverage.add(&machine.coverage);
         full += usize::from(machine.regs.written == CONSOLE as u64);
     }
-    // Without keys there is no FKEYBD; a few opcodes may not have faulted.
+    // Without keys there is no FKEYBD and no mark of one, and no program waits
+    // with interrupts masked; a few opcodes may not have faulted.
     let missing = coverage.missing(Due::Always, &[]);
-    let missing: Vec<_> = missing.iter().filter(|kind| !kind.ends_with("faulted")).collect();
-    assert_eq!(missing, ["trap 2", "trap 18"]);
+    let out = |kind: &str| kind.ends_with("faulted") || kind.starts_with("key mark");
+    let missing: Vec<_> = missing.iter().filter(|kind| !out(kind)).collect();
+    assert_eq!(
+        missing,
+        ["trap 2", "trap 18", "timer mark kept while waiting", "both marks with iena = 1"]
+    );
     assert!(full > 20, "{full}");
 }
 

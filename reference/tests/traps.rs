@@ -8,8 +8,8 @@ use reference::types::{Registers, Stop};
 fn a_stop_with_3_on_an_interrupt_ends_waiting() {
     let after = after("stop 3 ends waiting");
     let given = after.given.record.regs.clone();
-    let expected =
-        Registers { waiting: false, stop: Stop::NoFrame, count: 1, keys: 1, kbchar: 65, ..given };
+    let stopped = Registers { waiting: false, stop: Stop::NoFrame, count: 1, ..given };
+    let expected = Registers { keys: 1, kbchar: 65, key_pending: true, ..stopped };
     assert_eq!(*after.regs(), expected);
     assert!(after.memory_is_unchanged());
 }
@@ -18,8 +18,8 @@ fn a_stop_with_3_on_an_interrupt_ends_waiting() {
 fn a_stop_keeps_the_clocks_work() {
     let after = after("stop 2 keeps the clock");
     let given = after.given.record.regs.clone();
-    let expected =
-        Registers { stop: Stop::Masked, count: 1, keys: 1, kbchar: 65, timer: 3, ..given };
+    let stopped = Registers { stop: Stop::Masked, count: 1, ..given };
+    let expected = Registers { keys: 1, kbchar: 65, timer: 3, key_pending: true, ..stopped };
     assert_eq!(*after.regs(), expected);
 }
 

@@ -28,6 +28,7 @@ macro_rules! numbers {
 numbers! {
     a, b, c, sp, usp, ksp, pc, ivec, pdir, vadr, timer, timeout, kbchar,
     user, iena, paging, waiting, stop, count,
+    key_pending, timer_pending,
 }
 
 /// A field as a number, and back.

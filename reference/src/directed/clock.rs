@@ -1,4 +1,5 @@
-//! Keys, timer, waiting, and the step count's edges.
+//! Keys, timer, waiting, and the step count's edges; `marks.rs` has what comes
+//! of an event.
 
 use super::{bare, kernel, open};
 use crate::case::Runs;
@@ -28,16 +29,12 @@ fn keys() -> Vec<(&'static str, Runs)> {
         ("key due beyond 2^32", nops(late.clone()).run_keys(1, &[((1 << 32) + 6, 65)])),
         ("key due though its low half is larger", nops(late).run_keys(1, &[(9, 65)])),
         ("key of step 2^63", nops(quiet.clone()).run_keys(2, &[(1 << 63, 65)])),
-        ("one key a step", nops(quiet.clone()).run_keys(2, &unread)),
+        ("one key a step", nops(quiet).run_keys(2, &unread)),
         (
             "keys go on in the next run",
             nops(taken)
                 .run_keys(1, &[(2, 7), (3, 8), (4, 9)])
                 .run_keys(1, &[(2, 7), (3, 8), (4, 9)]),
-        ),
-        (
-            "a masked key raises nothing later",
-            bare(quiet, &[op("NOP", 0), op("STI", 0), op("NOP", 0)]).run_keys(3, &[(1, 65)]),
         ),
     ]
 }
@@ -55,10 +52,6 @@ fn timers() -> Vec<(&'static str, Runs)> {
         ("timer above timeout", nops(timer(9, 4)).run(1)),
         ("timer of 2^31", nops(timer(1 << 31, 5)).run(1)),
         ("timeout of 2^31", nops(timer(5, 1 << 31)).run(1)),
-        (
-            "a masked timer raises nothing later",
-            bare(Registers { iena: false, ..timer(4, 4) }, &[op("STI", 0), op("NOP", 0)]).run(2),
-        ),
         (
             "TIME keeps the timer",
             bare(restart.clone(), &[op("TIME", 0), op("NOP", 0)]).run(1).run(1),

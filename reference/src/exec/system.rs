@@ -25,6 +25,7 @@ impl Machine {
             System::Bin => {
                 self.regs.a = self.regs.kbchar;
                 self.regs.kbchar = self.pick(Mistake::BinKeepsKey, self.regs.kbchar, NO_KEY);
+                self.regs.key_pending &= !self.makes(Mistake::BinClearsMark);
             }
             System::Bout => self.bout(),
             System::Ssp => self.regs.ksp = self.stack(self.regs.a),
@@ -72,6 +73,7 @@ impl Machine {
         if imm == 0 || self.makes(Mistake::TimeIgnoresImm) {
             self.regs.timeout = self.regs.a;
             self.regs.timer = self.pick(Mistake::TimeRestartsTimer, 0, self.regs.timer);
+            self.regs.timer_pending &= !self.makes(Mistake::TimeClearsMark);
         }
     }
 
@@ -121,6 +123,10 @@ impl Machine {
         self.set_pc(target);
         self.regs.sp = sp.wrapping_add(16);
         self.regs.iena = true;
+        if self.makes(Mistake::RtiClearsMarks) {
+            self.regs.key_pending = false;
+            self.regs.timer_pending = false;
+        }
         if self.pick(Mistake::RtiExactMark, code == USER_MARK, code & USER_MARK != 0) {
             self.regs.ksp = self.pick(Mistake::RtiOldSpToKsp, sp, self.regs.sp);
             self.regs.sp = self.regs.usp;

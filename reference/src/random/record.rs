@@ -38,6 +38,8 @@ pub fn registers(rng: &mut Rng, space: &Space, paging: bool) -> Registers {
         count: step_count(rng),
         keys: 0,
         written: 0,
+        key_pending: rng.percent(15),
+        timer_pending: rng.percent(15),
     }
 }
 

@@ -78,6 +78,8 @@ fn put_many_walks(rng: &mut Rng, space: &Space, case: &mut Runs) {
     let (a, b) = (space.address(rng), space.address(rng));
     let (sp, ksp) = if regs.user { (regs.sp, stack) } else { (stack, regs.ksp) };
     *regs = Registers { a, b, c: 1, sp, ksp, iena: true, pc: space.code + PROGRAM, ..regs.clone() };
+    // An interrupt would come in the instruction's place.
+    (regs.key_pending, regs.timer_pending) = (false, false);
     let word = instruction(code_of(rng.pick(&["MCPY", "MCMP"])), 0);
     words::put(&mut case.memory, space.code_frame * PAGE + PROGRAM, 4, word);
 }

@@ -1,10 +1,13 @@
 //! What runs have reached, counted: a comparison that covers nothing of a kind
 //! shows nothing about it.
 
+mod marks;
+
 use crate::opcodes::decode::decode;
 use crate::opcodes::kinds::can_fault_in_kernel;
 use crate::opcodes::sets::{is_legal, is_privileged, name_of};
 use crate::types::{Access, Registers, Stop, Trap};
+use marks::Marks;
 use std::fmt::Arguments;
 
 /// Who made a store: an instruction or a trap frame.
@@ -61,6 +64,7 @@ pub struct Coverage {
     pub load_answers: [u64; 12],
     /// Stores of demand 3's kind, by storer.
     pub held_stores: [u64; 2],
+    marks: Marks,
     /// Walks of the step so far.
     walks_now: usize,
 }
@@ -84,6 +88,7 @@ impl Default for Coverage {
             answers: [0; 7],
             load_answers: [0; 12],
             held_stores: [0; 2],
+            marks: Marks::default(),
             walks_now: 0,
         }
     }
@@ -123,7 +128,9 @@ impl Coverage {
         self.opcodes[usize::from(code)][mode][paging][end] += 1;
     }
 
-    pub fn step(&mut self) {
+    /// A step, by the registers before and after it.
+    pub fn step(&mut self, before: &Registers, after: &Registers) {
+        self.marks.step(before, after);
         self.walks[self.walks_now] += 1;
         self.walks_now = 0;
     }
@@ -160,6 +167,7 @@ impl Coverage {
         sum(&mut self.answers, &other.answers);
         sum(&mut self.load_answers, &other.load_answers);
         sum(&mut self.held_stores, &other.held_stores);
+        self.marks.add(&other.marks);
     }
 }
 
@@ -239,6 +247,7 @@ impl Coverage {
             let name = format_args!("stores of demand 3's kind by {name}");
             visit(name, *count, Due::Always);
         }
+        self.marks.visit(&mut visit);
     }
 
     /// Hits, walks and entries.
