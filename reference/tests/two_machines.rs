@@ -67,6 +67,22 @@ fn mistakes_in_the_buffer_are_found() {
     }
 }
 
+/// The marks of keys and timer are compared: some of these show nowhere else.
+#[test]
+fn mistakes_in_the_marks_are_found() {
+    for mistake in [
+        Mistake::MaskedSetsNothing,
+        Mistake::TimerLostBesideKey,
+        Mistake::TimerMarkFirst,
+        Mistake::DeliveryClearsBoth,
+        Mistake::StopClearsMark,
+        Mistake::MaskedStopClearsMarks,
+        Mistake::BinClearsMark,
+    ] {
+        assert!(first_difference(with(mistake)).is_some(), "{mistake:?}");
+    }
+}
+
 /// These change only which entries are held, and the comparison rightly
 /// doesn't see them: the stored cases do.
 #[test]

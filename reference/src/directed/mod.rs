@@ -5,6 +5,7 @@ pub mod addresses;
 pub mod clock;
 pub mod every;
 pub mod large;
+pub mod marks;
 pub mod opcodes;
 pub mod refusals;
 pub mod tables;
@@ -23,6 +24,7 @@ pub fn all() -> Vec<Named> {
     worked
         .chain(named(traps::cases()))
         .chain(named(clock::cases()))
+        .chain(named(marks::cases()))
         .chain(named(addresses::cases()))
         .chain(named(opcodes::cases()))
         .chain(named(tables::cases()))
