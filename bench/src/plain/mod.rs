@@ -1,5 +1,5 @@
-//! A plain, idiomatic interpreter of the rules of document 01: `&mut self` methods, a match on the opcode byte, `Result` and `?`,
-//! slices with bounds checks, one byte at a time for block opcodes.
+//! A plain, idiomatic interpreter of the rules of document 01 with item 1 of document 02: `&mut self` methods, a match on the opcode byte,
+//! `Result` and `?`, slices with bounds checks, one byte at a time for block opcodes.
 
 mod execute;
 mod load;
@@ -9,6 +9,10 @@ mod translate;
 pub use load::load;
 
 use translate::Access;
+
+/// The codes of the two interrupts.
+const FTIMER: u32 = 1;
+const FKEYBD: u32 = 2;
 
 #[derive(Clone, Copy, Default)]
 pub struct Entry {
@@ -50,6 +54,9 @@ pub struct Machine {
     pub waiting: bool,
     pub stop: u32,
     pub count: u64,
+    /// Interrupts that await delivery: document 02 calls them marks.
+    pub key_pending: bool,
+    pub timer_pending: bool,
     pub taken: usize,
     pub written: usize,
     pub held: usize,
@@ -88,6 +95,8 @@ impl Machine {
             waiting: false,
             stop: 0,
             count: 0,
+            key_pending: false,
+            timer_pending: false,
             taken: 0,
             written: 0,
             held: 0,
@@ -131,23 +140,28 @@ impl Machine {
         }
     }
 
-    /// Keys and timer; the interrupt that is due.
+    /// Keys and timer, whose events await delivery; the interrupt that is due.
     fn clock(&mut self, keys: &[Key]) -> Option<u32> {
-        let mut due = None;
         if let Some(key) = keys.get(self.taken).filter(|key| key.step <= self.count) {
             self.taken += 1;
             self.kbchar = key.byte as u32;
-            due = self.iena.then_some(2);
+            self.key_pending = true;
         }
         if self.timeout != 0 {
             if self.timer >= self.timeout {
                 self.timer = 0;
-                due = due.or(self.iena.then_some(1));
+                self.timer_pending = true;
             } else {
                 self.timer += 1;
             }
         }
-        due
+        if !self.iena {
+            None
+        } else if self.key_pending {
+            Some(FKEYBD)
+        } else {
+            self.timer_pending.then_some(FTIMER)
+        }
     }
 
     fn trap(&mut self, fault: Fault, pc: u32) {
@@ -184,5 +198,10 @@ impl Machine {
         self.sp = top.wrapping_sub(16);
         self.iena = false;
         self.pc = self.ivec;
+        match code {
+            FKEYBD => self.key_pending = false,
+            FTIMER => self.timer_pending = false,
+            _ => {}
+        }
     }
 }
