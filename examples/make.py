@@ -11,7 +11,7 @@ HERE = Path(__file__).resolve().parent
 OPCODES = {
     "HALT": 0x00, "LEV": 0x02, "JMP": 0x03, "JSR": 0x05, "MCPY": 0x0A, "LL": 0x0E, "LG": 0x15, "LX": 0x1C, "LI": 0x23, "LHI": 0x24,
     "LBL": 0x26, "LBG": 0x2D, "LBI": 0x3B, "LBA": 0x3E, "SL": 0x40, "SG": 0x45, "SX": 0x4A, "ADDI": 0x54, "MULI": 0x5A, "DVU": 0x5F,
-    "DVUI": 0x60, "MDUI": 0x66, "BZ": 0x84, "BE": 0x88, "STI": 0x97, "RTI": 0x98, "BIN": 0x99, "BOUT": 0x9A, "PSHA": 0x9D, "POPA": 0xA3,
+    "DVUI": 0x60, "MDUI": 0x66, "BZ": 0x84, "BE": 0x88, "CLI": 0x96, "STI": 0x97, "RTI": 0x98, "BIN": 0x99, "BOUT": 0x9A, "PSHA": 0x9D, "POPA": 0xA3,
     "IVEC": 0xA4, "PDIR": 0xA5, "SPAG": 0xA6, "TIME": 0xA7, "LVAD": 0xA8, "TRAP": 0xA9, "SUSP": 0xAB, "LCA": 0xAD, "IDLE": 0xD1,
 }
 # whose imm is added to the pc that has moved on
@@ -196,6 +196,51 @@ write("ticks.v9", """
     enough:
     HALT
     data:
+    ticks:
+    WORD 0
+""")
+
+# the panel: no tick may show a rate of which one word is new and the other old, so it masks interrupts while it writes the two. The timer fires in between,
+# and the tick comes after STI. (Before item 1 of document 02 it was lost: `stop 1 steps 19 a 0 b 15 c 0 sp 32768 pc 76`.) The handler saves no register,
+# since the program keeps none past STI
+write("panel.v9", """
+    LI handler
+    IVEC
+    LI 10               ; the timer fires 11 steps after TIME
+    TIME
+    STI
+    CLI
+    LG grams            ; 40 grams in 15 seconds are 9,600 grams an hour
+    MULI 3600
+    LBG seconds
+    DVU
+    PSHA
+    DVUI 1000
+    SG whole            ; 9 kilograms
+    POPA
+    MDUI 1000           ; the timer fires in this step
+    SG rest             ; and 600 grams
+    STI
+    LG ticks            ; the tick comes in this step, before LG is fetched
+    HALT
+    handler:            ; a tick: the kilograms' digit on the console
+    LI 0                ; one tick is enough
+    TIME
+    LG whole
+    ADDI 0x30
+    LBA
+    BOUT
+    SG ticks            ; BOUT gave 1
+    RTI
+    data:
+    grams:
+    WORD 40
+    seconds:
+    WORD 15
+    whole:
+    WORD 0
+    rest:
+    WORD 0
     ticks:
     WORD 0
 """)

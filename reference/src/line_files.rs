@@ -193,6 +193,7 @@ fn examples() -> Vec<NamedFile> {
         ("trap.v9", include_bytes!("../../examples/trap.v9").to_vec()),
         ("feed.v9", include_bytes!("../../examples/feed.v9").to_vec()),
         ("ticks.v9", include_bytes!("../../examples/ticks.v9").to_vec()),
+        ("panel.v9", include_bytes!("../../examples/panel.v9").to_vec()),
         ("recipe.v9", include_bytes!("../../examples/recipe.v9").to_vec()),
         ("endless.v9", include_bytes!("../../examples/endless.v9").to_vec()),
         ("refused.v9", include_bytes!("../../examples/refused.v9").to_vec()),
