@@ -41,7 +41,7 @@ macro_rules! numbers {
 
 numbers! {
     a: word, b: word, c: word, sp: word, usp: word, ksp: word, pc: word, ivec: word, pdir: word, vadr: word, timer: word, timeout: word, kbchar: word,
-    user: flag, iena: flag, paging: flag, waiting: flag, stop: word, count: long, key_pending: flag, timer_pending: flag,
+    user: flag, iena: flag, paging: flag, waiting: flag, key_pending: flag, timer_pending: flag, stop: word, count: long,
 }
 
 /// Memory is written in chunks of this many bytes, but for those that are all zero.

@@ -149,14 +149,13 @@ fn fields() -> Vec<Vec<u8>> {
     runs.into_iter().chain(loads).collect()
 }
 
-/// Too large for the record's fields (13 words, 4 flags, the stop reason, and
-/// after the step count 2 marks), or for a slot's rights.
+/// Too large for the record's fields (13 words, 4 flags, 2 marks, the stop
+/// reason), or for a slot's rights.
 fn numbers() -> Vec<Vec<u8>> {
     let place = |nth: usize| FIRST_NUMBER + 8 * nth;
-    let short = (0..18).chain(19..21);
-    let mut list: Vec<Vec<u8>> = short.map(|nth| with(place(nth) + 4, 1)).collect();
-    list.extend((13..17).chain(19..21).map(|flag| with(place(flag), 2)));
-    list.push(with(place(17), 4));
+    let mut list: Vec<Vec<u8>> = (0..20).map(|nth| with(place(nth) + 4, 1)).collect();
+    list.extend((13..19).map(|flag| with(place(flag), 2)));
+    list.push(with(place(19), 4));
     for right in [SLOT + 8, SLOT + 12] {
         list.extend([2, 0x100, u32::MAX].map(|value| with(right, value)));
     }
@@ -190,7 +189,7 @@ fn unbroken() -> Vec<Vec<u8>> {
         with(MEMORY, 2_097_152),
         with(CONSOLE, 4096),
         with(COUNT, u32::MAX),
-        with(FIRST_NUMBER + 8 * 18 + 4, u32::MAX),
+        with(FIRST_NUMBER + 8 * 20 + 4, u32::MAX),
         with(SECOND_CHUNK, 4093),
         with(SECOND_CHUNK, 2),
         with(ENTRIES, 1),

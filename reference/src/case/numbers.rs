@@ -27,8 +27,7 @@ macro_rules! numbers {
 
 numbers! {
     a, b, c, sp, usp, ksp, pc, ivec, pdir, vadr, timer, timeout, kbchar,
-    user, iena, paging, waiting, stop, count,
-    key_pending, timer_pending,
+    user, iena, paging, waiting, key_pending, timer_pending, stop, count,
 }
 
 /// A field as a number, and back.
