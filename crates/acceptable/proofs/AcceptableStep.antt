@@ -18,17 +18,19 @@ use Rattle.paging.specs.Walk.{bit}
 use Rattle.word.proofs.BoolLaws.{both}
 use Rattle.rules.specs.declared.Clock.{Clock}
 use Rattle.rules.specs.declared.Cpu.{Cpu}
+use Rattle.rules.specs.declared.Interrupt.{Interrupt}
 use Rattle.rules.specs.declared.Key.{Key}
 use Rattle.rules.specs.declared.Next.{Next}
+use Rattle.rules.specs.declared.Pending.{Pending}
 use Rattle.rules.specs.declared.Regs.{Regs}
-use Rattle.rules.specs.Record.{setPc, setSp, withRegs, withSystem, withIena, withClock, withTimer, withTimeout, withWritten}
+use Rattle.rules.specs.Record.{setPc, setSp, withRegs, withSystem, withIena, withClock, withTimer, withTimeout, withPending, withTimerPending, withWritten, putPending}
 use Rattle.rules.specs.Tree.{Reply, got, denied, Tree, interpret}
 use Rattle.rules.specs.Outcome.{fine}
 use Rattle.rules.specs.Execute.{moved}
 use Rattle.rules.specs.Trap.{Effect, none as nothing, setSpace, deliver, print, Final, ended, entered, framed, deliverTree}
 use Rattle.rules.specs.System.{computed, backTo, returned, appended, directed}
-use Rattle.rules.specs.Clock.{nextOf, keyComes, keyed, timed, dueOf, ticked}
-use Rattle.rules.specs.Step.{stepTree, State, spaceAfter, consoleAfter, step}
+use Rattle.rules.specs.Clock.{nextOf, keyComes, keyed, timerFires, timed, ticked, dueOf}
+use Rattle.rules.specs.Step.{awake, interruptTree, stepTree, State, spaceAfter, consoleAfter, step}
 use Rattle.rules.proofs.Leaves.{Leaves, at-leaf, at-ask, leaf-at}
 use Rattle.rules.proofs.StepTree.{Shapes, every-step}
 use Rattle.rules.proofs.AcceptableRecord.{Tested, Passes, Directory, Acceptable}
@@ -60,10 +62,15 @@ module _ (size keys consoleSize : ℕ) (s : Space) (d : Directory size (s .pdir)
       go false = omega arith
 
   -- a trap frame, stored or not
-  frame-acceptable : (c : Cpu) (code pc : ℕ) → Passes keys consoleSize c → (r : Reply) → AllAcceptable (framed c code pc r)
+  frame-acceptable : (c : Cpu) (left : Pending) (code pc : ℕ) → Passes keys consoleSize c → (r : Reply) → AllAcceptable (framed c left code pc r)
   unfolding spaceAfter
-  frame-acceptable c code pc p (got x) = at-leaf (record { passes = entered-passes c p; directory = d })
-  frame-acceptable c code pc p (denied f) = ended-acceptable p
+  frame-acceptable c left code pc p (got x) = at-leaf (record { passes = entered-passes (putPending left c) p; directory = d })
+  frame-acceptable c left code pc p (denied f) = ended-acceptable p
+
+  -- an interrupt's
+  interrupt-acceptable : (i : Interrupt) (c : Cpu) → Passes keys consoleSize c → AllAcceptable (interruptTree i c)
+  unfolding deliverTree
+  interrupt-acceptable i c p = at-ask (frame-acceptable (awake c) _ _ _ p)
 
   -- RTI: "ksp = sp, sp = usp"
   back-passes : (b : Bool) (c : Cpu) → Passes keys consoleSize c → Passes keys consoleSize (backTo b c)
@@ -118,7 +125,6 @@ module _ (size keys consoleSize : ℕ) (s : Space) (d : Directory size (s .pdir)
   acceptable = record {
     on-fault = λ c address g. record { passes = g .passes; directory = g .directory };
     on-moved = λ c g. moved-acceptable c g;
-    on-awake = λ c g. record { passes = g .passes; directory = g .directory };
     waits = λ c g. ended-acceptable (g .passes);
     masks = λ c g. ended-acceptable (g .passes);
     computes = λ c op g. ended-acceptable (computed-passes op c (g .passes));
@@ -127,7 +133,7 @@ module _ (size keys consoleSize : ℕ) (s : Space) (d : Directory size (s .pdir)
     prints = λ c g e. appended-acceptable c (g .passes) e;
     directs = λ c g e. directed-acceptable c (g .passes) e;
     pages = λ c g. at-leaf (record { passes = g .passes; directory = g .directory });
-    delivers = λ c code pc g. at-ask (frame-acceptable c code pc (g .passes));
+    delivers = λ c code pc g. at-ask (frame-acceptable c (c .clock .pending) code pc (g .passes));
     reads = λ l. at-ask l;
   }
 
@@ -141,10 +147,11 @@ module _ (size keys consoleSize : ℕ) (s : Space) (d : Directory size (s .pdir)
 
 -- the timer leaves the keys taken
 timed-taken : (t : Clock) → timed t .taken ≡ t .taken
-timed-taken t = go (eqb (t .timeout) 0) (ltb (t .timeout) (t .timer + 1))
+timed-taken t = go (timerFires t) (eqb (t .timeout) 0)
   where
-    go : (a b : Bool) → (if a then t else (if b then withTimer 0 t else withTimer (t .timer + 1) t)) .taken ≡ t .taken
-    go true b = refl
+    go : (fires off : Bool)
+        → (if fires then withPending (withTimerPending true (t .pending)) (withTimer 0 t) else (if off then t else withTimer (t .timer + 1) t)) .taken ≡ t .taken
+    go true off = refl
     go false true = refl
     go false false = refl
 
@@ -168,7 +175,8 @@ unfolding stepTree
 step-acceptable {size} {keys} {consoleSize} k c more g =
     let t = ticked-acceptable k c more g in
     every-step OutAligned (acceptable size keys consoleSize (c .space) (g .directory)) (fine-acceptable size keys consoleSize (c .space) (g .directory))
-    (dueOf k c) (ticked k c) t (instruction-aligned (ticked k c .regs) (omega (arith, t .passes)))
+    (dueOf (ticked k c)) (ticked k c) t (λ i e. interrupt-acceptable size keys consoleSize (c .space) (g .directory) i (ticked k c) (t .passes))
+    (instruction-aligned (ticked k c .regs) (omega (arith, t .passes)))
 
 -- ---- as a step of a machine
 

@@ -29,15 +29,15 @@ fn formed(holds: bool) -> Judged {
     Judged::Malformed
 }
 
-// The largest value of the i-th number of the record: words, flags, the stop reason, the step count.
+// The largest value of the i-th number of the record: words, flags and marks, the stop reason, the step count.
 fn most(i: usize) -> u64 {
     if i < 13 {
         return 0xFFFF_FFFF;
     }
-    if i < 17 {
+    if i < 19 {
         return 1;
     }
-    if i < 18 {
+    if i < 20 {
         return 3;
     }
     0xFFFF_FFFF_FFFF_FFFF

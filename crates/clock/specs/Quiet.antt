@@ -1,4 +1,4 @@
--- Document 01, "One step", rules 1 to 3: steps in which the clock only counts. No key comes and the timer does not fire, so that nothing is due.
+-- Document 01, "One step", rules 1 to 3, and document 02, item 1: steps in which the clock only counts. No key comes, the timer does not fire, and nothing is due.
 use Prim.Native.Nat.{ℕ, _+_, _-_, _≤_, _<_}
 use mathlib.Core.Path.{_≡_}
 use mathlib.Core.Bool.{true, false}
@@ -7,8 +7,11 @@ use Rattle.word.specs.Word.{if_then_else_}
 use Rattle.rules.specs.declared.Regs.{Regs}
 use Rattle.rules.specs.declared.Clock.{Clock}
 use Rattle.rules.specs.declared.Cpu.{Cpu}
+use Rattle.rules.specs.declared.Due.{Due}
+use Rattle.rules.specs.declared.Due.the-variants.{Nothing, Now}
 use Rattle.rules.specs.declared.Next.{Next}
 use Rattle.rules.specs.Record.{withRegs, withClock, withTimer}
+use Rattle.rules.specs.Clock.{dueOf}
 
 -- the smaller number
 abbrev pub least : ℕ → ℕ → ℕ
@@ -22,14 +25,20 @@ beforeKey next count left = if next .some then least (next .step - (count + 1)) 
 unfoldable pub beforeTimer : Clock → (left : ℕ) → ℕ
 beforeTimer t left = if eqb (t .timeout) 0 then left else least (t .timeout - t .timer) left
 
--- in how many of the next `left` steps the clock only counts; none where the machine waits
+-- n steps where nothing is due, and else none
+abbrev pub unlessDue : Due → ℕ → ℕ
+unlessDue Nothing n = n
+unlessDue (Now i) n = 0
+
+-- in how many of the next `left` steps the clock only counts; none where the machine waits or an interrupt is due
 unfoldable pub quietSteps : Next → Cpu → (left : ℕ) → ℕ
 unfolding beforeKey beforeTimer
-quietSteps next c left = if c .system .waiting then 0 else beforeTimer (c .clock) (beforeKey next (c .regs .count) left)
+quietSteps next c left = if c .system .waiting then 0 else unlessDue (dueOf c) (beforeTimer (c .clock) (beforeKey next (c .regs .count) left))
 
 -- from c, up to the step count `limit`, the clock only counts
 pub record Quiet (next : Next) (c : Cpu) (limit : ℕ) : Type 0 where
   pub awake : c .system .waiting ≡ false
+  pub calm : dueOf c ≡ Nothing
   pub key : next .some ≡ true → limit < next .step
   pub timer : (c .clock .timeout ≡ 0 → ⊥) → c .clock .timer + (limit - c .regs .count) ≤ c .clock .timeout
 

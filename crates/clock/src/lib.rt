@@ -1,19 +1,16 @@
-// Document 01, "One step", rules 1 to 3: the step count, the next key, the timer; and what is due.
+// Document 01, "One step", rules 1 to 3, and document 02, item 1: the step count, the next key, the timer; what is pending, and what is due.
 ghost use mathlib.Core.Path.{_≡_};
 ghost use Prim.Native.Nat.{_+_, _<_, _^_};
-ghost use Rattle.rules.specs.Clock.{keyComes, keyed, timerFires, timed, ticked, dueOf};
-ghost use Rattle.clock.specs.Due.{KeyFits, dueAs};
+ghost use Rattle.rules.specs.Clock.{keyComes, keyed, timed, ticked, dueOf, cleared};
+ghost use Rattle.clock.specs.Taken.{KeyFits};
 use rules::Clock;
 use rules::Cpu;
+use rules::Due;
+use rules::Interrupt;
 use rules::Next;
+use rules::Pending;
 
 pub mod quiet;
-
-// What is due in a step: nothing, or a trap's code.
-pub enum Due {
-    Nothing,
-    Code(u32),
-}
 
 // Whether the next key comes in the step from c.
 fn key_comes(k: Next, c: Cpu) -> bool
@@ -24,7 +21,7 @@ fn key_comes(k: Next, c: Cpu) -> bool
     k.some & (k.step <= count)
 }
 
-// The clock with that key taken, where it comes.
+// The clock with that key taken and its interrupt pending, where it comes.
 fn keyed(k: Next, comes: bool, t: Clock) -> Clock
     requires { ⌜ KeyFits comes (t .taken) ⌝ }
     ensures { λ x. ⌜ x ≡ keyed k comes t ⌝ }
@@ -33,20 +30,13 @@ fn keyed(k: Next, comes: bool, t: Clock) -> Clock
         let mut n = t;
         n.kbchar = k.byte as u32;
         n.taken = t.taken + 1;
+        n.pending.key = true;
         return n;
     }
     t
 }
 
-// Whether the timer fires in the step from c; timer and timeout are compared as whole numbers.
-fn timer_fires(c: Cpu) -> bool
-    ensures { λ x. ⌜ x ≡ timerFires c ⌝ }
-{
-    let t = c.clock;
-    (t.timeout != 0) & ((t.timeout as u64) < t.timer as u64 + 1)
-}
-
-// The clock with the timer moved on.
+// The clock with the timer moved on, and its interrupt pending where it fires; timer and timeout are compared as whole numbers.
 fn timed(t: Clock) -> Clock
     ensures { λ x. ⌜ x ≡ timed t ⌝ }
 {
@@ -56,6 +46,7 @@ fn timed(t: Clock) -> Clock
     let mut n = t;
     if (t.timeout as u64) < t.timer as u64 + 1 {
         n.timer = 0;
+        n.pending.timer = true;
         return n;
     }
     n.timer = t.timer + 1;
@@ -76,18 +67,33 @@ pub fn tick(k: Next, c: Cpu) -> Cpu
     n
 }
 
-// What is due in the step from c.
-pub fn due_trap(k: Next, c: Cpu) -> Due
-    requires { ⌜ c .regs .count + 1 < 2 ^ 64 ⌝ }
-    ensures { λ d. ⌜ d ≡ dueAs (dueOf k c) ⌝ }
+// What is due in a step, from the record after rules 1 to 3.
+pub fn due_trap(c: Cpu) -> Due
+    ensures { λ d. ⌜ d ≡ dueOf c ⌝ }
 {
-    let key = c.system.iena & key_comes(k, c);
-    let timer = c.system.iena & !key & timer_fires(c);
-    if timer {
-        return Due::Code(paging::FTIMER);
+    let p = c.clock.pending;
+    if c.system.iena & p.key {
+        return Due::Now(Interrupt::Keyboard);
     }
-    if key {
-        return Due::Code(paging::FKEYBD);
+    if c.system.iena & p.timer {
+        return Due::Now(Interrupt::Timer);
     }
     Due::Nothing
+}
+
+// What stays pending where an interrupt is delivered.
+pub fn cleared(i: Interrupt, p: Pending) -> Pending
+    ensures { λ x. ⌜ x ≡ cleared i p ⌝ }
+{
+    let mut n = p;
+    match i {
+        Interrupt::Keyboard => {
+            n.key = false;
+            n
+        }
+        Interrupt::Timer => {
+            n.timer = false;
+            n
+        }
+    }
 }

@@ -1,9 +1,12 @@
-// Document 01, "One step": in how many coming steps the clock only counts (no key comes and the timer does not fire), and the record after them.
+// Document 01, "One step", and document 02, item 1: in how many coming steps the clock only counts (no key comes, the timer does not fire, no pending interrupt is
+// due), and the record after them.
 ghost use mathlib.Core.Path.{_≡_};
 ghost use Prim.Native.Nat.{_+_, _<_};
 ghost use Rattle.clock.specs.Quiet.{beforeKey, beforeTimer, quietSteps, Room, afterQuiet};
+use crate::due_trap;
 use rules::Clock;
 use rules::Cpu;
+use rules::Due;
 use rules::Next;
 use rules::Regs;
 
@@ -41,13 +44,17 @@ fn before_timer(t: Clock, left: u64) -> u64
     left
 }
 
-// In how many of the next `left` steps the clock only counts; none where the machine waits.
+// In how many of the next `left` steps the clock only counts; none where the machine waits or an interrupt is due.
 pub fn steps(k: Next, c: Cpu, left: u64) -> u64
     ensures { λ n. ⌜ n ≡ quietSteps k c left ⌝ }
 {
     if c.system.waiting {
         return 0;
     }
+    let d = due_trap(c);
+    let Due::Nothing = d else {
+        return 0;
+    };
     let n = before_key(k, c.regs.count, left);
     before_timer(c.clock, n)
 }

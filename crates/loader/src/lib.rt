@@ -11,6 +11,7 @@ use paging::Space;
 use rules::Clock;
 use rules::Cpu;
 use rules::Machine;
+use rules::Pending;
 use rules::Regs;
 use rules::Stop;
 use rules::System;
@@ -39,6 +40,10 @@ pub fn cpu_with(sp: u32, pc: u32, kbchar: u32) -> Cpu
             timeout: 0,
             kbchar,
             taken: 0,
+            pending: Pending {
+                key: false,
+                timer: false,
+            },
         },
         vadr: 0,
         space: Space {

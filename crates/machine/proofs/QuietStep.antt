@@ -1,7 +1,6 @@
 -- Document 01, "One step": a step in which the clock only counts is its instruction and the rest; and a run goes on by a step.
 use Prim.Native.Nat.{ℕ, suc, _+_, _≤_, _<_}
 use mathlib.Core.Bool.{Bool}
-use mathlib.Core.Option.{Option, none}
 use mathlib.Core.List.{List, [], _∷_}
 use mathlib.Core.Path.{_≡_, sym, ap, _∙_}
 use lib.ListN.{length}
@@ -10,6 +9,8 @@ use Rattle.paging.specs.declared.Entry.{Entry}
 use Rattle.mmu.specs.Translates.{Kept, result, keptIn, translator}
 use Rattle.rules.specs.declared.Regs.{Regs}
 use Rattle.rules.specs.declared.Cpu.{Cpu}
+use Rattle.rules.specs.declared.Due.{Due}
+use Rattle.rules.specs.declared.Due.the-variants.{Nothing}
 use Rattle.rules.specs.declared.Key.{Key}
 use Rattle.rules.specs.declared.Next.{Next}
 use Rattle.rules.specs.declared.Stop.{Stop}
@@ -50,8 +51,8 @@ module _ (k : Next) (c : Cpu) (limit : ℕ) (q : Quiet k c limit) (r : Regs) (la
   unfolding stepBy stepTree steppedBy dueTree at
   step-quiet {m} {l} {m′} {l′} {d} h =
       let x = afterQuiet c (raiseCount r) in
-      ap (λ (o : Option ℕ). at m l (dueTree o (length m) (length con) (ticked k (afterQuiet c r)))) (quiet-due k c limit q r later below)
-      ∙ ap (λ (y : Cpu). at m l (dueTree none (length m) (length con) y)) (quiet-ticked k c limit q r later below)
+      ap (λ (o : Due). at m l (dueTree o (length m) (length con) (ticked k (afterQuiet c r)))) (quiet-due k c limit q r later below)
+      ∙ ap (λ (y : Cpu). at m l (dueTree Nothing (length m) (length con) y)) (quiet-ticked k c limit q r later below)
       ∙ ap (λ (w : Bool). at m l (if w then ended x else bind (instructionTree (raiseCount r)) (settleTree (length m) (length con) x))) (q .awake)
       ∙ settled-law (length m) x con (instructionTree (raiseCount r)) m (keptIn l)
       ∙ ap (settled (length m) x con) (sym (h .same))

@@ -1,7 +1,6 @@
--- Document 01, "One step", rules 4 and 5: the three ends of a step.
+-- Document 01, "One step", rules 4 and 5, and document 02, item 1: the three ends of a step.
 use Prim.Native.Nat.{ℕ, _+_}
 use mathlib.Core.Bool.{Bool, true, false}
-use mathlib.Core.Option.{Option, none, some}
 use mathlib.Core.List.{List, []}
 use mathlib.Core.Path.{_≡_, refl, sym, ap, _∙_, subst}
 use lib.ListN.{length}
@@ -9,43 +8,23 @@ use Rattle.word.specs.Word.{if_then_else_}
 use Rattle.mmu.specs.Good.{Good}
 use Rattle.mmu.specs.Translates.{result, keptIn, translator}
 use Rattle.rules.specs.declared.Cpu.{Cpu}
+use Rattle.rules.specs.declared.Due.{Due}
+use Rattle.rules.specs.declared.Due.the-variants.{Nothing, Now}
+use Rattle.rules.specs.declared.Interrupt.{Interrupt}
 use Rattle.rules.specs.declared.Next.{Next}
+use Rattle.rules.specs.declared.Pending.{Pending}
 use Rattle.rules.specs.Tree.{bind, interpret}
 use Rattle.rules.specs.Execute.{instructionTree}
 use Rattle.rules.specs.Trap.{ended, deliverTree}
-use Rattle.rules.specs.Clock.{dueOf, ticked}
-use Rattle.rules.specs.Step.{awake, settleTree, dueTree, stepTree, spaceAfter, finished, steppedBy, stepBy}
+use Rattle.rules.specs.Clock.{ticked, interruptCode, dueOf, cleared}
+use Rattle.rules.specs.Step.{awake, settleTree, interruptTree, dueTree, stepTree, spaceAfter, finished, steppedBy, stepBy}
 use Rattle.contracts.specs.declared.Done.{Done}
 use Rattle.contracts.specs.Contract.{outOf, made, stateOf, Finishes}
 use Rattle.contracts.proofs.Steps.{finishes-ended}
-use Rattle.clock.specs.declared.Due.{Due}
-use Rattle.clock.specs.declared.Due.the-variants.{Nothing, Code}
-use Rattle.clock.specs.Due.{dueAs}
 use Rattle.machine.specs.Settled.{settled}
 use Rattle.machine.specs.Instructions.{InstructionsEnd}
 use Rattle.machine.specs.Step.{Steps}
 use Rattle.machine.proofs.SettledLaws.{settled-law}
-
--- ---- what is due, from the code's answer
-
--- the rule's answer that the code's stands for
-asDue : Due → Option ℕ
-asDue Nothing = none
-asDue (Code code) = some code
-
-due-back : (o : Option ℕ) → asDue (dueAs o) ≡ o
-unfolding asDue
-due-back none = refl
-due-back (some code) = refl
-
-module _ (k : Next) (c : Cpu) {d : Due} (e : d ≡ dueAs (dueOf k c)) where
-  due-code : {code : ℕ} → d ≡ Code code → dueOf k c ≡ some code
-  unfolding asDue
-  due-code f = sym (due-back (dueOf k c)) ∙ ap asDue (sym e ∙ f)
-
-  due-nothing : d ≡ Nothing → dueOf k c ≡ none
-  unfolding asDue
-  due-nothing f = sym (due-back (dueOf k c)) ∙ ap asDue (sym e ∙ f)
 
 -- ---- the rest of a step
 
@@ -58,34 +37,38 @@ module _ (k : Next) (c : Cpu) {t : Cpu} (f : t ≡ ticked k c) {n : ℕ} {l : Li
   pub good-awake : {y : Cpu} → y ≡ awake t → Good n (y .space .pdir) l
   good-awake e = subst (λ (y : Cpu). Good n (y .space .pdir) l) (sym e) good-ticked
 
-module _ (k : Next) (c : Cpu) {d : Due} (e : d ≡ dueAs (dueOf k c)) {t : Cpu} (f : t ≡ ticked k c) {m con l : List ℕ} where
+module _ (k : Next) (c : Cpu) {t : Cpu} (f : t ≡ ticked k c) {d : Due} (e : d ≡ dueOf t) {m con l : List ℕ} where
   -- a step by its tree, with what is due
-  by-due : (o : Option ℕ) → dueOf k c ≡ o → {x : Cpu} {m′ con′ l′ : List ℕ}
+  by-due : (o : Due) → d ≡ o → {x : Cpu} {m′ con′ l′ : List ℕ}
       → Finishes (dueTree o (length m) (length con) t) t m con l x m′ con′ l′
       → Steps c k m con l x m′ con′ l′
   unfolding stepBy stepTree steppedBy ticked
   by-due o q {x} {m′} {con′} {l′} h =
-      let h′ : Finishes (dueTree (dueOf k c) (length m) (length con) (ticked k c)) (ticked k c) m con l x m′ con′ l′ =
-      subst (λ (y : Cpu). Finishes (dueTree (dueOf k c) (length m) (length con) y) y m con l x m′ con′ l′) f
-      (subst (λ (y : Option ℕ). Finishes (dueTree y (length m) (length con) t) t m con l x m′ con′ l′) (sym q) h) in
+      let h′ : Finishes (dueTree (dueOf (ticked k c)) (length m) (length con) (ticked k c)) (ticked k c) m con l x m′ con′ l′ =
+      subst (λ (y : Cpu). Finishes (dueTree (dueOf y) (length m) (length con) y) y m con l x m′ con′ l′) f
+      (subst (λ (y : Due). Finishes (dueTree y (length m) (length con) t) t m con l x m′ con′ l′) (sym q ∙ e) h) in
       record { same = h′ .same; good = h′ .good }
 
-  -- something is due: waiting ends and the trap is delivered
-  pub step-due : {code : ℕ} {y x : Cpu} {m′ l′ : List ℕ} → d ≡ Code code → y ≡ awake t
-      → Finishes (deliverTree y code (t .regs .pc)) y m con l x m′ con l′
+  -- an interrupt is due: waiting ends, and the trap is delivered and clears its mark
+  pub step-due : {i : Interrupt} {left : Pending} {code : ℕ} {y x : Cpu} {m′ l′ : List ℕ} → d ≡ Now i → left ≡ cleared i (t .clock .pending)
+      → code ≡ interruptCode i → y ≡ awake t → Finishes (deliverTree y left code (t .regs .pc)) y m con l x m′ con l′
       → Steps c k m con l x m′ con l′
   unfolding dueTree
-  step-due {code} {x = x} {m′} {l′} q w h =
-      let h′ : Finishes (deliverTree (awake t) code (t .regs .pc)) (awake t) m con l x m′ con l′ =
-      subst (λ (z : Cpu). Finishes (deliverTree z code (t .regs .pc)) z m con l x m′ con l′) w h in
-      by-due (some code) (due-code k c e q) (record { same = h′ .same; good = h′ .good })
+  step-due {i} {left} {code} {x = x} {m′} {l′} q p r w h =
+      let h₁ : Finishes (deliverTree (awake t) left code (t .regs .pc)) (awake t) m con l x m′ con l′ =
+      subst (λ (z : Cpu). Finishes (deliverTree z left code (t .regs .pc)) z m con l x m′ con l′) w h in
+      let h₂ : Finishes (deliverTree (awake t) (cleared i (t .clock .pending)) code (t .regs .pc)) (awake t) m con l x m′ con l′ =
+      subst (λ (z : Pending). Finishes (deliverTree (awake t) z code (t .regs .pc)) (awake t) m con l x m′ con l′) p h₁ in
+      let h₃ : Finishes (interruptTree i t) (awake t) m con l x m′ con l′ =
+      subst (λ (z : ℕ). Finishes (deliverTree (awake t) (cleared i (t .clock .pending)) z (t .regs .pc)) (awake t) m con l x m′ con l′) r h₂ in
+      by-due (Now i) q (record { same = h₃ .same; good = h₃ .good })
 
   -- the machine waits
   pub step-waits : {x : Cpu} → d ≡ Nothing → t .system .waiting ≡ true → x ≡ t → Good (length m) (t .space .pdir) l → Steps c k m con l x m con l
   unfolding dueTree spaceAfter
   step-waits {x} q w p g =
       let tree = bind (instructionTree (t .regs)) (settleTree (length m) (length con) t) in
-      by-due none (due-nothing k c e q)
+      by-due Nothing q
       (subst (λ (b : Bool). Finishes (if b then ended t else tree) t m con l x m con l) (sym w) (finishes-ended {k = t} {c = t} p g))
 
   -- an instruction, and the rest
@@ -104,5 +87,5 @@ module _ (k : Next) (c : Cpu) {d : Due} (e : d ≡ dueAs (dueOf k c)) {t : Cpu} 
       ∙ h .first refl t con
       ∙ ap (λ (y : Cpu). settled (length m) t con (made (interpret translator (y .space) (y .system .user) (instructionTree (y .regs)) m (keptIn l) []))) (sym f)
       ∙ sym (settled-law (length m) t con (instructionTree (t .regs)) m (keptIn l)) in
-      by-due none (due-nothing k c e q)
+      by-due Nothing q
       (subst (λ (b : Bool). Finishes (if b then ended t else tree) t m con l x m″ con″ l″) (sym w) (record { same = whole; good = s .good }))

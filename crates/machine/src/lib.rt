@@ -6,15 +6,15 @@ ghost use Rattle.mmu.specs.Good.{Good};
 ghost use Rattle.rules.specs.Record.{withCount, withRegs};
 ghost use Rattle.rules.specs.Step.{awake as awakeOf, settleTree};
 ghost use Rattle.contracts.specs.Contract.{outOf, Finishes};
-ghost use Rattle.clock.specs.Due.{KeyFits};
+ghost use Rattle.clock.specs.Taken.{KeyFits};
 ghost use Rattle.machine.specs.Instructions.{raiseCount, InstructionsEnd};
 ghost use Rattle.machine.specs.Step.{Steps};
 ghost use Rattle.machine.specs.Advance.{Ready, Advances};
-use clock::Due;
 use contracts::Done;
 use contracts::End;
 use paging::Space;
 use rules::Cpu;
+use rules::Due;
 use rules::Next;
 use rules::Regs;
 
@@ -111,10 +111,12 @@ pub fn step(
     requires { ⌜ KeyFits (k .some) (c .clock .taken) ⌝ }
     ensures { λ x. ⌜ Steps c k (now (mem .entry)) (now (console .entry)) (now (tlb .entry)) x (now (mem .exit)) (now (console .exit)) (now (tlb .exit)) ⌝ }
 {
-    let d = clock::due_trap(k, c);
     let t = clock::tick(k, c);
-    if let Due::Code(code) = d {
-        return trap::deliver(awake(t), code, t.regs.pc, mem, tlb, hint);
+    let d = clock::due_trap(t);
+    if let Due::Now(i) = d {
+        let left = clock::cleared(i, t.clock.pending);
+        let code = rules::interrupt_code(i);
+        return trap::deliver(awake(t), left, code, t.regs.pc, mem, tlb, hint);
     }
     if t.system.waiting {
         return t;

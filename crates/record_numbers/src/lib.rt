@@ -1,11 +1,12 @@
-// Document 01, "The record and the loaded program": the record as one list of numbers, in the order of its sentences; keys taken and console bytes written
-// stand beside it.
+// Document 01, "The record and the loaded program": the record as one list of numbers, in the order of its sentences, with document 02's marks after the flags; keys
+// taken and console bytes written stand beside it.
 ghost use mathlib.Core.Path.{_≡_};
 ghost use Rattle.rules.specs.Arithmetic.{flag};
 ghost use Rattle.rules.specs.Numbers.{numbersOf, stopOf, recordOfLow};
 use paging::Space;
 use rules::Clock;
 use rules::Cpu;
+use rules::Pending;
 use rules::Regs;
 use rules::Stop;
 use rules::System;
@@ -19,11 +20,12 @@ fn flag(b: bool) -> u64
 }
 
 // The numbers of a record.
-pub fn numbers_of(c: Cpu) -> [u64; 19]
+pub fn numbers_of(c: Cpu) -> [u64; 21]
     ensures { λ r. ⌜ r ≡ numbersOf c ⌝ }
 {
     let regs = c.regs;
     let clock = c.clock;
+    let pending = clock.pending;
     let space = c.space;
     let system = c.system;
     let stop = c.stop;
@@ -45,6 +47,8 @@ pub fn numbers_of(c: Cpu) -> [u64; 19]
         flag(system.iena),
         flag(space.paging),
         flag(system.waiting),
+        flag(pending.key),
+        flag(pending.timer),
         stop_number(stop) as u64,
         regs.count,
     ]
@@ -70,7 +74,7 @@ fn stop_of(n: u64) -> Stop
 const WORDS: u64 = 0x1_0000_0000;
 
 // A record, from its numbers.
-pub fn record_of(n: [u64; 19], taken: usize, written: usize) -> Cpu
+pub fn record_of(n: [u64; 21], taken: usize, written: usize) -> Cpu
     ensures { λ r. ⌜ r ≡ recordOfLow n taken written ⌝ }
 {
     let regs = Regs {
@@ -79,13 +83,18 @@ pub fn record_of(n: [u64; 19], taken: usize, written: usize) -> Cpu
         c: (n[2] % WORDS) as u32,
         sp: (n[3] % WORDS) as u32,
         pc: (n[6] % WORDS) as u32,
-        count: n[18],
+        count: n[20],
+    };
+    let pending = Pending {
+        key: n[17] == 1,
+        timer: n[18] == 1,
     };
     let clock = Clock {
         timer: (n[10] % WORDS) as u32,
         timeout: (n[11] % WORDS) as u32,
         kbchar: (n[12] % WORDS) as u32,
         taken,
+        pending,
     };
     let space = Space {
         pdir: (n[8] % WORDS) as u32,
@@ -105,7 +114,7 @@ pub fn record_of(n: [u64; 19], taken: usize, written: usize) -> Cpu
         vadr: (n[9] % WORDS) as u32,
         space,
         system,
-        stop: stop_of(n[17]),
+        stop: stop_of(n[19]),
         written,
     }
 }

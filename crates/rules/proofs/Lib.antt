@@ -3,6 +3,8 @@ pub mod Leaves
 pub mod LowBits
 pub mod StepTree
 pub mod StepSpace
+pub mod PendingLaws
+pub mod NoneLost
 pub mod ValidStep
 pub mod Simulation
 pub mod StepAgrees

@@ -24,7 +24,13 @@ pub record-read : (c : Cpu) → recordOf (numbersOf c) (c .clock .taken) (c .wri
 unfolding recordBy
 record-read c = λ i. record {
   regs = c .regs;
-  clock = c .clock;
+  clock = record {
+    timer = c .clock .timer;
+    timeout = c .clock .timeout;
+    kbchar = c .clock .kbchar;
+    taken = c .clock .taken;
+    pending = record { key = flag-read (c .clock .pending .key) i; timer = flag-read (c .clock .pending .timer) i };
+  };
   vadr = c .vadr;
   space = record { pdir = c .space .pdir; paging = flag-read (c .space .paging) i };
   system = record {

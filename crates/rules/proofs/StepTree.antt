@@ -4,7 +4,6 @@ use Prim.Native.Nat.{ℕ}
 use mathlib.Core.Path.{_≡_, refl}
 use mathlib.Core.Bool.{Bool, true, false}
 use mathlib.Core.List.{List}
-use mathlib.Core.Option.{Option, none, some}
 use lib.Dec.{ltb}
 use Rattle.word.specs.Word.{if_then_else_}
 use Rattle.decode.specs.declared.PlainOp.{PlainOp}
@@ -14,6 +13,9 @@ use Rattle.paging.specs.declared.Access.the-variants.{Read}
 use Rattle.paging.specs.declared.Fault.{Fault}
 use Rattle.paging.specs.TrapCode.{FMEM, FPRIV}
 use Rattle.rules.specs.declared.Cpu.{Cpu}
+use Rattle.rules.specs.declared.Due.{Due}
+use Rattle.rules.specs.declared.Due.the-variants.{Nothing, Now}
+use Rattle.rules.specs.declared.Interrupt.{Interrupt}
 use Rattle.rules.specs.declared.Regs.{Regs}
 use Rattle.rules.specs.declared.Stop.the-variants.{Masked}
 use Rattle.rules.specs.Record.{withRegs, withVadr, withStop, putA}
@@ -22,16 +24,15 @@ use Rattle.rules.specs.Outcome.{Out, fine, unfetched, trap, refused, sys
 use Rattle.rules.specs.Execute.{moved, instructionTree}
 use Rattle.rules.specs.Trap.{none as nothing, Final, ended, deliverTree, trapTree, nextPc, faultTree}
 use Rattle.rules.specs.System.{computed, returned, orFault, appended, directed, spagTree, privilegedTree, systemTree}
-use Rattle.rules.specs.Step.{awake, settleTree, dueTree}
+use Rattle.rules.specs.Step.{settleTree, interruptTree, dueTree}
 use Rattle.rules.proofs.Leaves.{Leaves, at-leaf, leaves-then, leaves-if}
 
 -- ---- what is asked of T and G
 
 pub record Shapes (size consoleSize : ℕ) (T : Tree Final → Type 0) (G : Cpu → Type 0) : Type 0 where
-  -- G is kept where a fault sets vadr, where pc moves on and where waiting ends
+  -- G is kept where a fault sets vadr and where pc moves on
   pub on-fault : (c : Cpu) (address : ℕ) → G c → G (withVadr address c)
   pub on-moved : (c : Cpu) → G c → G (withRegs (moved (c .regs)) c)
-  pub on-awake : (c : Cpu) → G c → G (awake c)
   -- the record alone changes: a step that only waits, a stop with 2, a privileged instruction that computes, RTI, a full console
   pub waits : (c : Cpu) → G c → T (ended c)
   pub masks : (c : Cpu) → G c → T (ended (withStop Masked c))
@@ -42,8 +43,8 @@ pub record Shapes (size consoleSize : ℕ) (T : Tree Final → Type 0) (G : Cpu 
   pub prints : (c : Cpu) → G c → ltb (c .written) consoleSize ≡ true → T (appended c)
   pub directs : (c : Cpu) → G c → ltb (c .regs .a) size ≡ true → T (directed c)
   pub pages : (c : Cpu) → G c → T (spagTree c)
-  -- accesses: a trap frame, stored or not; RTI's reads
-  pub delivers : (c : Cpu) (code pc : ℕ) → G c → T (deliverTree c code pc)
+  -- accesses: a fault's or TRAP's frame, stored or not; RTI's reads
+  pub delivers : (c : Cpu) (code pc : ℕ) → G c → T (deliverTree c (c .clock .pending) code pc)
   pub reads : {va : ℕ} {rest : Reply → Tree Final} → ((r : Reply) → T (rest r)) → T (ask (access Read 4 va) rest)
 
 -- a choice of two trees, whose test may tell something
@@ -98,8 +99,9 @@ module _ {size consoleSize : ℕ} {P : Final → Type 0} {G : Cpu → Type 0} (O
   every-settle c g (refused f) o = every-fault shapes c f (nextPc c) g
   every-settle c g (system op) o = every-system shapes op c g
 
-  -- something is due, or nothing; c is the record after rules 1 to 3
-  pub every-step : (due : Option ℕ) (c : Cpu) → G c → Leaves O (instructionTree (c .regs)) → Leaves P (dueTree due size consoleSize c)
+  -- an interrupt is due, or nothing; c is the record after rules 1 to 3
+  pub every-step : (due : Due) (c : Cpu) → G c → ((i : Interrupt) → due ≡ Now i → Leaves P (interruptTree i c)) → Leaves O (instructionTree (c .regs))
+      → Leaves P (dueTree due size consoleSize c)
   unfolding dueTree
-  every-step (some code) c g i = shapes .delivers (awake c) code _ (shapes .on-awake c g)
-  every-step none c g i = leaves-if (c .system .waiting) (shapes .waits c g) (leaves-then (settleTree size consoleSize c) i (every-settle c g))
+  every-step (Now i) c g delivers l = delivers i refl
+  every-step Nothing c g delivers l = leaves-if (c .system .waiting) (shapes .waits c g) (leaves-then (settleTree size consoleSize c) l (every-settle c g))

@@ -12,4 +12,5 @@ pub mod System
 pub mod Clock
 pub mod Step
 pub mod Run
+pub mod Pending
 pub mod Load

@@ -15,7 +15,7 @@ use Rattle.rules.specs.declared.Stop.the-variants.{Running}
 abbrev pub cpuWith : (sp pc kbchar : ℕ) → Cpu
 cpuWith sp pc kbchar = record {
   regs = record { a = 0; b = 0; c = 0; sp = sp; pc = pc; count = 0 };
-  clock = record { timer = 0; timeout = 0; kbchar = kbchar; taken = 0 };
+  clock = record { timer = 0; timeout = 0; kbchar = kbchar; taken = 0; pending = record { key = false; timer = false } };
   vadr = 0;
   space = record { pdir = 0; paging = false };
   system = record { usp = 0; ksp = 0; ivec = 0; user = false; iena = false; waiting = false };

@@ -1,5 +1,5 @@
--- Document 01, "The record and the loaded program": the record as one list of numbers, in the order of its first sentences. Keys taken and console bytes
--- written stand beside the list, and the page buffer is no part of it.
+-- Document 01, "The record and the loaded program": the record as one list of numbers, in the order of its first sentences, with document 02's marks in the place
+-- that its item 5 gives them, after the flags. Keys taken and console bytes written stand beside the list, and the page buffer is no part of it.
 use Prim.Native.Nat.{ℕ, _%_, _^_}
 use mathlib.Core.Bool.{Bool}
 use mathlib.Core.List.{List, [], _∷_}
@@ -12,13 +12,14 @@ use Rattle.rules.specs.declared.Cpu.{Cpu}
 use Rattle.rules.specs.Arithmetic.{flag}
 use Rattle.rules.specs.Record.{stopNumber}
 
--- "Numbers: a, b, c, sp, usp, ksp, pc, ivec, pdir, vadr, timer, timeout, kbchar. Flags: user, iena, paging, waiting. Also: stop reason, step count"
+-- "Numbers: a, b, c, sp, usp, ksp, pc, ivec, pdir, vadr, timer, timeout, kbchar. Flags: user, iena, paging, waiting. Also: stop reason, step count"; "The record
+-- gains two marks", of a key and of the timer
 abbrev pub numbersOf : Cpu → List ℕ
 numbersOf c =
     c .regs .a ∷ c .regs .b ∷ c .regs .c ∷ c .regs .sp ∷ c .system .usp ∷ c .system .ksp ∷ c .regs .pc ∷ c .system .ivec
     ∷ c .space .pdir ∷ c .vadr ∷ c .clock .timer ∷ c .clock .timeout ∷ c .clock .kbchar
     ∷ flag (c .system .user) ∷ flag (c .system .iena) ∷ flag (c .space .paging) ∷ flag (c .system .waiting)
-    ∷ stopNumber (c .stop) ∷ c .regs .count ∷ []
+    ∷ flag (c .clock .pending .key) ∷ flag (c .clock .pending .timer) ∷ stopNumber (c .stop) ∷ c .regs .count ∷ []
 
 -- a flag, from its number
 abbrev pub flagOf : ℕ → Bool
@@ -31,8 +32,14 @@ stopOf n = if eqb n 0 then Running else (if eqb n 1 then Halted else (if eqb n 2
 -- a record, from its numbers; those of 32 bits are read by `word`
 unfoldable pub recordBy : (ℕ → ℕ) → List ℕ → (taken written : ℕ) → Cpu
 recordBy word l taken written = record {
-  regs = record { a = word (getD l 0 0); b = word (getD l 1 0); c = word (getD l 2 0); sp = word (getD l 3 0); pc = word (getD l 6 0); count = getD l 18 0 };
-  clock = record { timer = word (getD l 10 0); timeout = word (getD l 11 0); kbchar = word (getD l 12 0); taken = taken };
+  regs = record { a = word (getD l 0 0); b = word (getD l 1 0); c = word (getD l 2 0); sp = word (getD l 3 0); pc = word (getD l 6 0); count = getD l 20 0 };
+  clock = record {
+    timer = word (getD l 10 0);
+    timeout = word (getD l 11 0);
+    kbchar = word (getD l 12 0);
+    taken = taken;
+    pending = record { key = flagOf (getD l 17 0); timer = flagOf (getD l 18 0) };
+  };
   vadr = word (getD l 9 0);
   space = record { pdir = word (getD l 8 0); paging = flagOf (getD l 15 0) };
   system = record {
@@ -43,7 +50,7 @@ recordBy word l taken written = record {
     iena = flagOf (getD l 14 0);
     waiting = flagOf (getD l 16 0);
   };
-  stop = stopOf (getD l 17 0);
+  stop = stopOf (getD l 19 0);
   written = written;
 }
 

@@ -1,10 +1,11 @@
--- Document 01, "The record and the loaded program": its numbers for the stop reasons, and the record with one part put in place.
+-- Document 01, "The record and the loaded program", and document 02, item 1: its numbers for the stop reasons, and the record with one part put in place.
 use Prim.Native.Nat.{ℕ}
 use mathlib.Core.Bool.{Bool, true, false}
 use Rattle.word.specs.Word.{cut}
 use Rattle.paging.specs.declared.Space.{Space}
 use Rattle.rules.specs.declared.Regs.{Regs}
 use Rattle.rules.specs.declared.Clock.{Clock}
+use Rattle.rules.specs.declared.Pending.{Pending}
 use Rattle.rules.specs.declared.System.{System}
 use Rattle.rules.specs.declared.Stop.{Stop}
 use Rattle.rules.specs.declared.Stop.the-variants.{Running, Halted, Masked, NoFrame}
@@ -76,16 +77,25 @@ withWritten x c = record { regs = c .regs; clock = c .clock; vadr = c .vadr; spa
 -- ---- within the groups
 
 abbrev pub withTimer : ℕ → Clock → Clock
-withTimer x clock = record { timer = x; timeout = clock .timeout; kbchar = clock .kbchar; taken = clock .taken }
+withTimer x clock = record { timer = x; timeout = clock .timeout; kbchar = clock .kbchar; taken = clock .taken; pending = clock .pending }
 
 abbrev pub withTimeout : ℕ → Clock → Clock
-withTimeout x clock = record { timer = clock .timer; timeout = x; kbchar = clock .kbchar; taken = clock .taken }
+withTimeout x clock = record { timer = clock .timer; timeout = x; kbchar = clock .kbchar; taken = clock .taken; pending = clock .pending }
 
 abbrev pub withKbchar : ℕ → Clock → Clock
-withKbchar x clock = record { timer = clock .timer; timeout = clock .timeout; kbchar = x; taken = clock .taken }
+withKbchar x clock = record { timer = clock .timer; timeout = clock .timeout; kbchar = x; taken = clock .taken; pending = clock .pending }
 
 abbrev pub withTaken : ℕ → Clock → Clock
-withTaken x clock = record { timer = clock .timer; timeout = clock .timeout; kbchar = clock .kbchar; taken = x }
+withTaken x clock = record { timer = clock .timer; timeout = clock .timeout; kbchar = clock .kbchar; taken = x; pending = clock .pending }
+
+abbrev pub withPending : Pending → Clock → Clock
+withPending x clock = record { timer = clock .timer; timeout = clock .timeout; kbchar = clock .kbchar; taken = clock .taken; pending = x }
+
+abbrev pub withKeyPending : Bool → Pending → Pending
+withKeyPending x p = record { key = x; timer = p .timer }
+
+abbrev pub withTimerPending : Bool → Pending → Pending
+withTimerPending x p = record { key = p .key; timer = x }
 
 abbrev pub withPdir : ℕ → Space → Space
 withPdir x s = record { pdir = x; paging = s .paging }
@@ -114,3 +124,7 @@ withWaiting x y = record { usp = y .usp; ksp = y .ksp; ivec = y .ivec; user = y 
 -- register a of a record, set
 abbrev pub putA : ℕ → Cpu → Cpu
 putA x c = withRegs (withA x (c .regs)) c
+
+-- what is pending, set
+abbrev pub putPending : Pending → Cpu → Cpu
+putPending p c = withClock (withPending p (c .clock)) c

@@ -1,14 +1,16 @@
--- Document 01, "One step": a step of the machine with the page buffer and of the table reader, by one rule.
+-- Document 01, "One step", and document 02, item 1: a step of the machine with the page buffer and of the table reader, by one rule.
 use Prim.Native.Nat.{ℕ, _+_}
 use mathlib.Core.Bool.{false}
 use mathlib.Core.List.{List, [], _∷_, _++_}
-use mathlib.Core.Option.{Option, none, some}
 use lib.ListN.{length, set}
 use Rattle.word.specs.Word.{if_then_else_}
 use Rattle.paging.specs.declared.Space.{Space}
 use Rattle.paging.specs.Event.{Event, delivered}
 use Rattle.paging.specs.Translate.{Translator}
 use Rattle.rules.specs.declared.Cpu.{Cpu}
+use Rattle.rules.specs.declared.Due.{Due}
+use Rattle.rules.specs.declared.Due.the-variants.{Nothing, Now}
+use Rattle.rules.specs.declared.Interrupt.{Interrupt}
 use Rattle.rules.specs.declared.Key.{Key}
 use Rattle.rules.specs.declared.Next.{Next}
 use Rattle.rules.specs.Record.{withCount, withRegs, withSpace, withSystem, withWaiting}
@@ -17,7 +19,7 @@ use Rattle.rules.specs.Outcome.{Out, fine, unfetched, trap, refused, sys
 use Rattle.rules.specs.Execute.{instructionTree}
 use Rattle.rules.specs.Trap.{Effect, none as nothing, setSpace, deliver, print, Final, final, ended, deliverTree, trapTree, faultTree, nextPc}
 use Rattle.rules.specs.System.{systemTree}
-use Rattle.rules.specs.Clock.{nextOf, ticked, dueOf}
+use Rattle.rules.specs.Clock.{nextOf, ticked, interruptCode, dueOf, cleared}
 
 -- the rest of a step after its instruction: c is the record before the fetch, its count raised, size and consoleSize the lengths of memory and console
 unfoldable pub settleTree : (size consoleSize : ℕ) → Cpu → Out → Tree Final
@@ -33,16 +35,22 @@ abbrev pub awake : Cpu → Cpu
 awake c = withSystem (withWaiting false (c .system)) c
 
 -- c is the record after rules 1 to 3
+-- an interrupt: "waiting ends and the trap is delivered"; "its delivery clears its mark"
+abbrev pub interruptTree : Interrupt → Cpu → Tree Final
+interruptTree i c = deliverTree (awake c) (cleared i (c .clock .pending)) (interruptCode i) (c .regs .pc)
+
 -- rules 4 and 5: "If something is due, waiting ends and the trap is delivered; the step ends. If waiting, the step ends. Else fetch"
-unfoldable pub dueTree : Option ℕ → (size consoleSize : ℕ) → Cpu → Tree Final
+unfoldable pub dueTree : Due → (size consoleSize : ℕ) → Cpu → Tree Final
 unfolding settleTree instructionTree
-dueTree (some code) size consoleSize c = deliverTree (awake c) code (c .regs .pc)
-dueTree none size consoleSize c = if c .system .waiting then ended c else bind (instructionTree (c .regs)) (settleTree size consoleSize c)
+dueTree (Now i) size consoleSize c = interruptTree i c
+dueTree Nothing size consoleSize c = if c .system .waiting then ended c else bind (instructionTree (c .regs)) (settleTree size consoleSize c)
 
 -- a step, from the record before it
 unfoldable pub stepTree : Next → (size consoleSize : ℕ) → Cpu → Tree Final
 unfolding dueTree
-stepTree next size consoleSize c = dueTree (dueOf next c) size consoleSize (ticked next c)
+stepTree next size consoleSize c =
+    let t = ticked next c in
+    dueTree (dueOf t) size consoleSize t
 
 -- ---- the machines
 

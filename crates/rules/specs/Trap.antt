@@ -1,4 +1,5 @@
--- Document 01, "Traps": delivery, and the stops. c is the record before the fetch or delivery: its count is raised, and a denied access has set vadr.
+-- Document 01, "Traps", and document 02, item 1: delivery, and the stops. c is the record before the fetch or delivery: its count is raised, and a denied access
+-- has set vadr.
 use Prim.Native.Nat.{ℕ}
 use mathlib.Core.Bool.{false}
 use mathlib.Core.List.{List, [], _∷_}
@@ -8,7 +9,8 @@ use Rattle.paging.specs.declared.Fault.{Fault}
 use Rattle.paging.specs.TrapCode.{USER}
 use Rattle.rules.specs.declared.Stop.the-variants.{Masked, NoFrame}
 use Rattle.rules.specs.declared.Cpu.{Cpu}
-use Rattle.rules.specs.Record.{withSp, withPc, withRegs, withSystem, withStop, withVadr, withUsp, withUser, withIena}
+use Rattle.rules.specs.declared.Pending.{Pending}
+use Rattle.rules.specs.Record.{withSp, withPc, withRegs, withSystem, withStop, withVadr, withUsp, withUser, withIena, putPending}
 use Rattle.rules.specs.Tree.{Reply, got, denied, Tree, ask, done, slots}
 
 -- what a step does beyond the record and memory: nothing; PDIR or SPAG set the address space; a trap frame is delivered, with its code; a byte goes
@@ -49,19 +51,19 @@ entered c =
     withRegs (withPc (c .system .ivec) (withSp (difference (kernelSp c) 16) (c .regs)))
     (withSystem (withUsp (savedUsp c) (withUser false (withIena false (c .system)))) c)
 
--- a stop "leaves registers, user, iena and pc as before the fetch or delivery"
-abbrev pub framed : Cpu → ℕ → ℕ → Reply → Tree Final
-framed c code pc (got x) = final (entered c) (pc ∷ codeOf c code ∷ []) (deliver code)
-framed c code pc (denied f) = ended (withStop NoFrame c)
+-- left is what a delivery leaves pending. A stop "leaves registers, user, iena and pc as before the fetch or delivery"; document 02: "a stop with 3 keeps" the mark
+abbrev pub framed : Cpu → Pending → ℕ → ℕ → Reply → Tree Final
+framed c left code pc (got x) = final (entered (putPending left c)) (pc ∷ codeOf c code ∷ []) (deliver code)
+framed c left code pc (denied f) = ended (withStop NoFrame c)
 
 -- "Slots sp-8 (pc) and sp-16 (code) are both translated for kernel writing, in that order, before either is stored; a refusal stops with 3"
-unfoldable pub deliverTree : Cpu → ℕ → ℕ → Tree Final
-deliverTree c code pc = ask (slots (difference (kernelSp c) 8) (difference (kernelSp c) 16)) (framed c code pc)
+unfoldable pub deliverTree : Cpu → Pending → ℕ → ℕ → Tree Final
+deliverTree c left code pc = ask (slots (difference (kernelSp c) 8) (difference (kernelSp c) 16)) (framed c left code pc)
 
 -- "If iena = 0 a fault or TRAP stops with 2"
 unfoldable pub trapTree : Cpu → ℕ → ℕ → Tree Final
 unfolding deliverTree
-trapTree c code pc = if c .system .iena then deliverTree c code pc else ended (withStop Masked c)
+trapTree c code pc = if c .system .iena then deliverTree c (c .clock .pending) code pc else ended (withStop Masked c)
 
 -- "The pc stored is the next instruction's for faults in execution and TRAP"
 abbrev pub nextPc : Cpu → ℕ

@@ -1,6 +1,7 @@
-// Document 01, "The record and the loaded program": the record, in groups by who writes them.
+// Document 01, "The record and the loaded program", and document 02, item 1: the record, in groups by who writes them.
 ghost use mathlib.Core.Path.{_≡_};
 ghost use Rattle.rules.specs.Record.{stopNumber, isRunning};
+ghost use Rattle.rules.specs.Clock.{interruptCode};
 ghost use Rattle.rules.specs.Run.{runNumber, isAccepted};
 use paging::Entry;
 use paging::Space;
@@ -15,12 +16,19 @@ pub struct Regs {
     pub count: u64,
 }
 
-// What the clock changes: the timer, the last key's character, and the keys taken (document 01's term: how many of the list).
+// Which interrupts are pending: document 02's marks of a key event and of a timer event.
+pub struct Pending {
+    pub key: bool,
+    pub timer: bool,
+}
+
+// What the clock changes: the timer, the last key's character, the keys taken (document 01's term: how many of the list), and the pending interrupts.
 pub struct Clock {
     pub timer: u32,
     pub timeout: u32,
     pub kbchar: u32,
     pub taken: usize,
+    pub pending: Pending,
 }
 
 // What traps and privileged instructions change.
@@ -74,6 +82,18 @@ pub struct Next {
     pub byte: u8,
 }
 
+// An interrupt, by what raises it.
+pub enum Interrupt {
+    Keyboard,
+    Timer,
+}
+
+// What is due in a step.
+pub enum Due {
+    Nothing,
+    Now(Interrupt),
+}
+
 // What a run answers.
 pub enum RunAnswer {
     Accepted,
@@ -94,6 +114,16 @@ pub fn stop_number(stop: Stop) -> u32
         Stop::Halted => 1,
         Stop::Masked => 2,
         Stop::NoFrame => 3,
+    }
+}
+
+// The trap code of an interrupt.
+pub fn interrupt_code(i: Interrupt) -> u32
+    ensures { λ r. ⌜ r ≡ interruptCode i ⌝ }
+{
+    match i {
+        Interrupt::Keyboard => paging::FKEYBD,
+        Interrupt::Timer => paging::FTIMER,
     }
 }
 

@@ -9,7 +9,7 @@ use lib.Dec.{ltb, eqb}
 use borrow.Author.Tests.{ltb-true, eqb-true, lt-ltb, eq-eqb}
 use Rattle.word.proofs.BoolLaws.{both}
 use Rattle.mmu.specs.Good.{Good}
-use Rattle.clock.specs.Due.{KeyFits}
+use Rattle.clock.specs.Taken.{KeyFits}
 use Rattle.rules.specs.declared.Cpu.{Cpu}
 use Rattle.rules.specs.declared.Key.{Key}
 use Rattle.rules.specs.declared.Next.{Next}

@@ -9,7 +9,7 @@ use Rattle.paging.specs.declared.Entry.{Entry}
 use Rattle.paging.specs.Buffer.{bufferOk}
 use Rattle.buffer.specs.Held.{count, Buffer}
 use Rattle.mmu.specs.Translates.{keptIn}
-use Rattle.clock.specs.Due.{KeyFits}
+use Rattle.clock.specs.Taken.{KeyFits}
 use Rattle.rules.specs.declared.Cpu.{Cpu}
 use Rattle.rules.specs.declared.Next.{Next}
 use Rattle.rules.specs.declared.Machine.{Machine}

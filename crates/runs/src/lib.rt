@@ -1,7 +1,7 @@
 // Document 01, "Numbers returned": a run begins, refused or accepted, and goes on from key to key.
 ghost use mathlib.Core.Path.{_≡_};
 ghost use lib.ListN.{length};
-ghost use Rattle.clock.specs.Due.{KeyFits};
+ghost use Rattle.clock.specs.Taken.{KeyFits};
 ghost use Rattle.machine.specs.Advance.{Ready};
 ghost use Rattle.rules.specs.Run.{allowance};
 ghost use Rattle.runs.specs.Advance.{leftOf, Goes};

@@ -13,6 +13,7 @@ use Rattle.paging.specs.Event.{Event}
 use Rattle.paging.specs.Translate.{Outcome}
 use Rattle.mmu.specs.Translates.{Kept, translator}
 use Rattle.rules.specs.declared.Cpu.{Cpu}
+use Rattle.rules.specs.declared.Pending.{Pending}
 use Rattle.rules.specs.declared.Stop.the-variants.{NoFrame}
 use Rattle.rules.specs.Record.{withStop}
 use Rattle.rules.specs.Tree.{Reply, got, denied, access, Tree, ask, Grant, Ended, Replied, replyTo, slot, requested, firstSlot, secondSlot, answered, storeAll, interpret}
@@ -56,9 +57,9 @@ module _ (k : Cpu) (con : List ℕ) where
     }
 
   -- ---- a trap frame is stored through the writes of its own two slots
-  module _ (c : Cpu) (code pc : ℕ) where
+  module _ (c : Cpu) (left : Pending) (code pc : ℕ) where
     abbrev framing : Outcome (List Entry) Replied → List Grant → State Kept
-    framing o gs = run (framed c code pc (o .answer .reply)) (o .mem) (o .buffer) (o .answer .grants ++ gs)
+    framing o gs = run (framed c left code pc (o .answer .reply)) (o .mem) (o .buffer) (o .answer .grants ++ gs)
 
     second-slot : (p : ℕ) (ev : List Event) (o : Outcome (List Entry) Answer) (a : Answer) (gs : List Grant)
         → framing (secondSlot translator p ev o a) gs ≡ framing (secondSlot translator p ev o a) []
@@ -74,7 +75,7 @@ module _ (k : Cpu) (con : List ℕ) where
         second-slot p (o .events) t (t .answer) gs
     first-slot va o (Denied f) gs = fresh-final (withStop NoFrame c) none .fresh (o .mem) (o .buffer) gs
 
-    fresh-deliver : Fresh (deliverTree c code pc)
+    fresh-deliver : Fresh (deliverTree c left code pc)
     unfolding deliverTree interpret answered finished
     fresh-deliver = record {
       fresh = λ m es gs.
@@ -87,7 +88,6 @@ module _ (k : Cpu) (con : List ℕ) where
   fresh-shapes size consoleSize = record {
     on-fault = λ c address g. tt;
     on-moved = λ c g. tt;
-    on-awake = λ c g. tt;
     waits = λ c g. fresh-final _ none;
     masks = λ c g. fresh-final _ none;
     computes = λ c op g. fresh-final _ none;
@@ -96,6 +96,6 @@ module _ (k : Cpu) (con : List ℕ) where
     prints = λ c g e. fresh-final _ _;
     directs = λ c g e. fresh-final _ _;
     pages = λ c g. fresh-final _ _;
-    delivers = λ c code pc g. fresh-deliver c code pc;
+    delivers = λ c code pc g. fresh-deliver c (c .clock .pending) code pc;
     reads = λ h. fresh-read 4 _ _ h;
   }

@@ -1,11 +1,11 @@
-// Document 01, "Traps": delivery, and the stops.
+// Document 01, "Traps", and document 02, item 1: delivery, and the stops.
 ghost use mathlib.Core.Path.{_≡_};
 ghost use mathlib.Core.List.{List};
 ghost use Prim.Native.Nat.{ℕ};
 ghost use lib.ListN.{length};
 ghost use Rattle.mmu.specs.Good.{Good};
 ghost use Rattle.rules.specs.declared.Stop.the-variants.{Masked, NoFrame};
-ghost use Rattle.rules.specs.Record.{withStop, withVadr};
+ghost use Rattle.rules.specs.Record.{withStop, withVadr, putPending};
 ghost use Rattle.rules.specs.Trap.{kernelSp, codeOf, savedUsp, entered as enteredOf, nextPc, deliverTree, trapTree, faultTree};
 ghost use Rattle.contracts.specs.Contract.{Finishes};
 use memory::Size;
@@ -13,6 +13,7 @@ use paging::Access;
 use paging::Answer;
 use paging::Fault;
 use rules::Cpu;
+use rules::Pending;
 use rules::Stop;
 
 // ---- parts of the record
@@ -78,19 +79,22 @@ fn trap_code(c: Cpu, code: u32) -> u32
     code
 }
 
-// The record in the trap handler.
-fn entered(c: Cpu) -> Cpu
-    ensures { λ x. ⌜ x ≡ enteredOf c ⌝ }
+// The record in the trap handler; `left` is what stays pending.
+fn entered(c: Cpu, left: Pending) -> Cpu
+    ensures { λ x. ⌜ x ≡ enteredOf (putPending left c) ⌝ }
 {
     let mut n = c;
     let sp = word::difference(kernel_sp(c), 16);
     let usp = saved_usp(c);
     let pc = c.system.ivec;
+    let mut clock = c.clock;
+    clock.pending = left;
     n.regs.sp = sp;
     n.regs.pc = pc;
     n.system.usp = usp;
     n.system.user = false;
     n.system.iena = false;
+    n.clock = clock;
     n
 }
 
@@ -110,9 +114,10 @@ fn no_frame(c: Cpu) -> Cpu
 
 // ---- traps
 
-// Both slots of the frame are translated for kernel writing before either is stored.
+// Both slots of the frame are translated for kernel writing before either is stored. `left` is what stays pending, where the frame is stored.
 pub fn deliver(
     c: Cpu,
+    left: Pending,
     code: u32,
     pc: u32,
     mem: &mut [u8],
@@ -120,7 +125,7 @@ pub fn deliver(
     hint: &mut [u8; 256],
 ) -> Cpu
     requires { ⌜ Good (length (now mem)) (c .space .pdir) (now tlb) ⌝ }
-    ensures { λ x. ⌜ ((con : List ℕ) → Finishes (deliverTree c code pc) c (now (mem .entry)) con (now (tlb .entry)) x (now (mem .exit)) con (now (tlb .exit))) ⌝ }
+    ensures { λ x. ⌜ ((con : List ℕ) → Finishes (deliverTree c left code pc) c (now (mem .entry)) con (now (tlb .entry)) x (now (mem .exit)) con (now (tlb .exit))) ⌝ }
 {
     let s = c.space;
     let top = kernel_sp(c);
@@ -136,7 +141,7 @@ pub fn deliver(
     };
     memory::store(mem, x, Size::Word, pc);
     memory::store(mem, y, Size::Word, trap_code(c, code));
-    entered(c)
+    entered(c, left)
 }
 
 // A fault without an address, or TRAP.
@@ -152,7 +157,7 @@ pub fn trap(
     ensures { λ x. ⌜ ((con : List ℕ) → Finishes (trapTree c code pc) c (now (mem .entry)) con (now (tlb .entry)) x (now (mem .exit)) con (now (tlb .exit))) ⌝ }
 {
     if c.system.iena {
-        return deliver(c, code, pc, mem, tlb, hint);
+        return deliver(c, c.clock.pending, code, pc, mem, tlb, hint);
     }
     masked(c)
 }

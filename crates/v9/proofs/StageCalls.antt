@@ -27,7 +27,7 @@ use denote.Triple.Spec.{tripleOf}
 use denote.Triple.Statement.{Contract}
 use denote.Triple.Clauses.{ensured, lasts}
 use denote.Triple.Walked.{says}
-use Rattle.clock.specs.Due.{KeyFits}
+use Rattle.clock.specs.Taken.{KeyFits}
 use Rattle.rules.specs.declared.Machine.{Machine}
 use Rattle.rules.specs.declared.Next.{Next}
 use Rattle.runs.specs.declared.UnderWay.{UnderWay}

@@ -10,7 +10,7 @@ use lib.WfN.{Nat·lt-wfRel}
 use borrow.Author.Tests.{ltb-true, ltb-false}
 use denote.Laws.{Is}
 use denote.Struct.Laws as LL
-use Rattle.clock.specs.Due.{KeyFits}
+use Rattle.clock.specs.Taken.{KeyFits}
 use Rattle.rules.specs.declared.Key.{Key}
 use Rattle.rules.specs.declared.Next.{Next}
 use Rattle.rules.specs.declared.Machine.{Machine}

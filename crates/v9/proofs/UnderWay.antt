@@ -10,7 +10,7 @@ use lib.Dec.{ltb}
 use borrow.Author.Tests.{ltb-true}
 use Rattle.paging.specs.declared.Entry.{Entry}
 use Rattle.paging.specs.Translate.{buffered}
-use Rattle.clock.specs.Due.{KeyFits}
+use Rattle.clock.specs.Taken.{KeyFits}
 use Rattle.rules.specs.declared.Key.{Key}
 use Rattle.rules.specs.declared.Next.{Next}
 use Rattle.rules.specs.declared.Machine.{Machine}

@@ -9,6 +9,7 @@ pub mod Blocks
 pub mod Privileged
 pub mod Stops
 pub mod Traps
+pub mod Interrupts
 pub mod Pages
 pub mod Entries
 pub mod Loading

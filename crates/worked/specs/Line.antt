@@ -79,6 +79,13 @@ kbchar s = s .cpu .clock .kbchar
 abbrev pub taken : Found → ℕ
 taken s = s .cpu .clock .taken
 
+-- document 02's marks, of a key and of a timer event
+abbrev pub keyPending : Found → ℕ
+keyPending s = flag (s .cpu .clock .pending .key)
+
+abbrev pub timerPending : Found → ℕ
+timerPending s = flag (s .cpu .clock .pending .timer)
+
 abbrev pub user : Found → ℕ
 user s = flag (s .cpu .system .user)
 

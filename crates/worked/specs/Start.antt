@@ -8,7 +8,7 @@ use Rattle.rules.specs.declared.Cpu.{Cpu}
 use Rattle.rules.specs.declared.Key.{Key}
 use Rattle.rules.specs.declared.Stop.{Stop}
 use Rattle.rules.specs.Record.{withB, withC, withSp, withPc, withCount, withRegs, withClock, withPdir, withPaging, withSpace}
-use Rattle.rules.specs.Record.{withSystem, withStop, withWritten, withTimer, withTimeout, withTaken, withUsp, withKsp, withIvec, withUser, withIena, withWaiting}
+use Rattle.rules.specs.Record.{withSystem, withStop, withWritten, withTimer, withTimeout, withTaken, withPending, withUsp, withKsp, withIvec, withUser, withIena, withWaiting}
 use Rattle.rules.specs.Load.{freshCpu}
 
 -- ---- the record: fresh in 4,096 bytes with entry 0, and then with one part put in place
@@ -36,6 +36,10 @@ putTimer x y c = withClock (withTimer x (withTimeout y (c .clock))) c
 
 abbrev pub putTaken : ℕ → Cpu → Cpu
 putTaken x c = withClock (withTaken x (c .clock)) c
+
+-- document 02's marks, of a key and of a timer event
+abbrev pub putPending : (key timer : Bool) → Cpu → Cpu
+putPending x y c = withClock (withPending (record { key = x; timer = y }) (c .clock)) c
 
 abbrev pub putWritten : ℕ → Cpu → Cpu
 putWritten x c = withWritten x c

@@ -19,18 +19,14 @@ there-and-back = memory 4096 (0 holds (0xa9 ∷ []) ∷ 0x40 holds (0x98 ∷ [])
 
 abbrev pub lines : List Line
 lines =
-    -- a key of step 2: "kbchar = byte, and if iena, FKEYBD is due"; "16 is added from user mode"; stored is "the fetch address for interrupts"
+    -- a key of step 2: "kbchar = byte"; "16 is added from user mode"; stored is "the fetch address for interrupts"
     keyed (key 2 65 ∷ []) program (small (0x9b ∷ 0x9b ∷ [])) 2
     (word 0x70 is 18 ∷ word 0x78 is 4 ∷ sp is 0x70 ∷ pc is 0x40 ∷ usp is 0x100 ∷ user is 0 ∷ iena is 0 ∷ kbchar is 65 ∷ taken is 1 ∷ []) ∷
-    -- "What arrives while iena = 0 raises nothing later"
-    keyed (key 1 65 ∷ []) fresh (small (0x97 ∷ 0x9b ∷ [])) 2 (kbchar is 65 ∷ taken is 1 ∷ iena is 1 ∷ pc is 8 ∷ []) ∷
     -- "take that one key"
     keyed (key 0 65 ∷ key 0 66 ∷ []) fresh (small (0x9b ∷ 0x9b ∷ [])) 1 (kbchar is 65 ∷ taken is 1 ∷ []) ∷
     -- the timer: timeout 1, so that it rises in step 1, and in step 2 "timer + 1 > timeout"
     line (putTimer 0 1 kernel) (small (0x9b ∷ 0x9b ∷ [])) 1 (timer is 1 ∷ pc is 4 ∷ []) ∷
     line (putTimer 0 1 kernel) (small (0x9b ∷ 0x9b ∷ [])) 2 (word 0xf0 is 1 ∷ word 0xf8 is 4 ∷ sp is 0xf0 ∷ pc is 0x40 ∷ timer is 0 ∷ iena is 0 ∷ []) ∷
-    -- both in one step: "if iena and nothing is due, FTIMER is due"
-    keyed (key 1 65 ∷ []) (putTimer 1 1 kernel) (small (0x9b ∷ [])) 1 (word 0xf0 is 2 ∷ word 0xf8 is 0 ∷ timer is 0 ∷ pc is 0x40 ∷ []) ∷
     -- IDLE: "waiting = iena"; "If waiting, the step ends"
     line kernel (small (0xd1 ∷ 0x9b ∷ [])) 3 (waiting is 1 ∷ pc is 4 ∷ []) ∷
     -- a key of step 3: "waiting ends and the trap is delivered"
@@ -59,11 +55,9 @@ pub traps : Hold lines
 unfolding Both
 traps =
     (tt, tt) also  -- a key
-    (tt, tt) also  -- a key while iena = 0
     (tt, tt) also  -- one key a step
     (tt, tt) also  -- the timer rises
     (tt, tt) also  -- the timer's trap
-    (tt, tt) also  -- a key and the timer
     (tt, tt) also  -- IDLE
     (tt, tt) also  -- a key ends waiting
     (tt, tt) also  -- TRAP from user mode

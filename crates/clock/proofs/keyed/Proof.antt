@@ -10,7 +10,7 @@ add-n c =
     omega (arith, pre .fits (c .before .before .if1 .taken))
 
 returns : tie.Need-returns
-returns c = rw (c .before .before .if1 .taken)
+returns c = rw (c .before .before .before .if1 .taken)
 
 returns-2 : tie.Need-returns-2
 returns-2 c = rw (c .if1 .left)

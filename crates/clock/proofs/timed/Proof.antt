@@ -9,8 +9,8 @@ returns c = rw (eq-eqb _ _ (c .if1 .taken))
 
 returns-2 : tie.Need-returns-2
 returns-2 c =
-    let if1 = c .before .before .before .if1 in
-    rw (ne-eqb _ _ (if1 .left), lt-ltb _ _ (c .if2 .taken))
+    let if1 = c .before .before .before .before .if1 in
+    rw (ne-eqb _ _ (if1 .left), lt-ltb _ _ (c .before .if2 .taken))
 
 returns-3 : tie.Need-returns-3
 returns-3 c =

@@ -1,4 +1,4 @@
--- A step by rules 4 and 5: something is due and delivered, the machine waits, or one instruction is made and settled.
+-- A step by rules 4 and 5: an interrupt is due and delivered, the machine waits, or one instruction is made and settled.
 use native.Mathlib.Omega.{arith}
 use mathlib.Core.Path.{refl}
 use borrow.Author.Needs.{needs}
@@ -8,25 +8,28 @@ use Rattle.machine.proofs.step.Tie as tie
 
 deliver-requires : tie.Need-deliver-requires
 deliver-requires c κs =
-    let tick = c .before .before .before .before .before .before .before .tick in
-    let pre = c .before .before .before .before .before .before .before .before .before .before .before .before .pre in
+    let tick = c .before .before .before .before .before .before .before .before .before .before .tick in
+    let pre = c .before .before .before .before .before .before .before .before .before .before .before .before .before .before .pre in
     good-awake _ _ (tick .ensures) (pre .0) (c .before .before .before .awake .ensures)
 
 returns : tie.Need-returns
 returns c =
-    let due-trap = c .before .before .before .before .before .before .before .before .before .before .before .before .before .due-trap in
-    let tick = c .before .before .before .before .before .before .before .before .before .before .before .before .tick in
-    let due = c .before .before .before .before .before .before .before .before .before .before .d in
-    let awake = c .before .before .before .before .before .before .before .before .awake in
     let deliver = c .before .before .before .before .deliver in
-    step-due _ _ (due-trap .ensures) (tick .ensures) (due .given .1) (awake .ensures) (deliver .ensures _)
+    let at-awake = c .before .before .before .before .before .before .before .before in
+    let awake = at-awake .awake in
+    let interrupt-code = at-awake .before .interrupt-code in
+    let cleared = at-awake .before .before .cleared in
+    let due = at-awake .before .before .before .before .d in
+    let due-trap = at-awake .before .before .before .before .before .before .due-trap in
+    let tick = at-awake .before .before .before .before .before .before .before .tick in
+    step-due _ _ (tick .ensures) (due-trap .ensures) (due .given .1) (cleared .ensures) (interrupt-code .ensures) (awake .ensures) (deliver .ensures _)
 
 returns-2 : tie.Need-returns-2
 returns-2 c =
-    let due-trap = c .before .before .before .before .due-trap in
-    let tick = c .before .before .before .tick in
+    let due-trap = c .before .before .before .due-trap in
+    let tick = c .before .before .before .before .tick in
     let pre = c .before .before .before .before .before .before .before .before .pre in
-    step-waits _ _ (due-trap .ensures) (tick .ensures) (c .before .enum-told .given .1) (c .if1 .taken) refl (good-ticked _ _ (tick .ensures) (pre .0))
+    step-waits _ _ (tick .ensures) (due-trap .ensures) (c .before .enum-told .given .1) (c .if1 .taken) refl (good-ticked _ _ (tick .ensures) (pre .0))
 
 instructions-requires : tie.Need-instructions-requires
 instructions-requires c κs =
@@ -35,8 +38,8 @@ instructions-requires c κs =
 
 settle-requires : tie.Need-settle-requires
 settle-requires c κs =
-    let tick = c .before .before .before .before .before .before .before .before .before .before .before .before .before .before .before .before .tick in
     let instructions = c .before .before .before .before .before .before .before .before .instructions in
+    let tick = c .before .before .before .before .before .before .before .before .before .before .before .before .before .before .before .before .before .tick in
     good-ticked _ _ (tick .ensures) (instructions .ensures .good)
 
 returns-3 : tie.Need-returns-3
@@ -47,15 +50,16 @@ returns-3 c =
     let at-if1 = at-settle .before .before .before .before .before .before .before .before .before .before .before .before .before .before in
     let if1 = at-if1 .if1 in
     let enum-told = at-if1 .before .enum-told in
-    let tick = at-if1 .before .before .before .tick in
-    let due-trap = at-if1 .before .before .before .before .due-trap in
-    step-executes _ _ (due-trap .ensures) (tick .ensures) (enum-told .given .1) (if1 .left) (instructions .kept .1 .1 .1 .1 .0) (instructions .ensures) (settle .ensures)
+    let due-trap = at-if1 .before .before .before .due-trap in
+    let tick = at-if1 .before .before .before .before .tick in
+    step-executes _ _ (tick .ensures) (due-trap .ensures) (enum-told .given .1) (if1 .left) (instructions .kept .1 .1 .1 .1 .0) (instructions .ensures) (settle .ensures)
 
 pub step-spec : {M : Type 1} → statement M
 step-spec =
     tie.close
     (tie.spec
-    (λ c κs. search needs) (λ c κs. search needs) (λ c. search needs) (λ c κs. search needs)
+    (λ c κs. search needs) (λ c κs. search needs) (λ c. search needs) (λ c κs. search needs) (λ c κs. search needs)
+    (λ c κs. search needs)
     deliver-requires
     (λ c. search needs) (λ c. search needs)
     returns

@@ -4,8 +4,7 @@ use Rattle.record_numbers.proofs.numbers_of.Statement.{statement}
 use Rattle.record_numbers.proofs.numbers_of.Tie as tie
 
 returns : tie.Need-returns
-returns c =
-    rw (c .stop-number .ensures, c .before .flag4 .ensures, c .before .before .flag3 .ensures, c .before .before .before .flag2 .ensures, c .before .before .before .before .flag .ensures)
+returns c = cc
 
 pub numbers-of-spec : {M : Type 1} → statement M
 numbers-of-spec =
@@ -14,5 +13,6 @@ numbers-of-spec =
     (λ c. search needs) (λ c. search needs) (λ c. search needs) (λ c. search needs) (λ c. search needs)
     (λ c. search needs) (λ c. search needs) (λ c. search needs) (λ c. search needs) (λ c. search needs)
     (λ c. search needs) (λ c. search needs) (λ c. search needs) (λ c κs. search needs) (λ c κs. search needs)
-    (λ c κs. search needs) (λ c κs. search needs) (λ c κs. search needs) (λ c. search needs)
+    (λ c κs. search needs) (λ c κs. search needs) (λ c κs. search needs) (λ c κs. search needs) (λ c κs. search needs)
+    (λ c. search needs)
     returns)

@@ -14,7 +14,7 @@ returns c =
     let difference = c .before .before .before .before .before .before .before .before .before .before .before .before .difference in
     let difference2 = c .before .before .before .before .before .before .before .before .before .before .before .difference2 in
     let translate = c .before .before .before .before .before .before .before .translate in
-    λ con. deliver-first _ _ _ (kernel-sp .ensures) (difference .ensures) (difference2 .ensures) (translate .ensures) (c .before .enum-told .given .1)
+    λ con. deliver-first _ _ _ _ (kernel-sp .ensures) (difference .ensures) (difference2 .ensures) (translate .ensures) (c .before .enum-told .given .1)
     (c .no-frame .ensures)
 
 same-length-3 : tie.Need-same-length-3
@@ -41,7 +41,7 @@ returns-2 c =
     let difference2 = at-address .before .before .before .before .before .before .before .before .before .before .difference2 in
     let difference = at-address .before .before .before .before .before .before .before .before .before .before .before .difference in
     let kernel-sp = at-address .before .before .before .before .before .before .before .before .before .before .before .before .kernel-sp in
-    λ con. deliver-second _ _ _ (kernel-sp .ensures) (difference .ensures) (difference2 .ensures) (translate .ensures) (address .given .1)
+    λ con. deliver-second _ _ _ _ (kernel-sp .ensures) (difference .ensures) (difference2 .ensures) (translate .ensures) (address .given .1)
     (translate2 .ensures) (c .before .enum-told2 .given .1) (c .no-frame2 .ensures)
 
 store-requires : tie.Need-store-requires
@@ -99,7 +99,7 @@ returns-3 c =
     let difference2 = at-address .before .before .before .before .before .before .before .before .before .before .difference2 in
     let difference = at-address .before .before .before .before .before .before .before .before .before .before .before .difference in
     let kernel-sp = at-address .before .before .before .before .before .before .before .before .before .before .before .before .kernel-sp in
-    λ con. deliver-both _ _ _ (kernel-sp .ensures) (difference .ensures) (difference2 .ensures) (translate .ensures) (address .given .1) (translate2 .ensures)
+    λ con. deliver-both _ _ _ _ (kernel-sp .ensures) (difference .ensures) (difference2 .ensures) (translate .ensures) (address .given .1) (translate2 .ensures)
     (address2 .given .1) (trap-code .ensures) (store .ensures) (store2 .ensures) (c .entered .ensures)
 
 pub deliver-spec : {M : Type 1} → statement M
