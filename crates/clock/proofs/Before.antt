@@ -1,20 +1,17 @@
--- Document 01, "One step", rules 2 and 3: how many steps come before the next key's, before the timer fires, and before either where nothing is due.
+-- Document 01, "One step", rules 2 and 3: how many steps come before the next key's, and before the timer fires.
 use Prim.Native.Nat.{ℕ, _+_, _-_, _≤_, _<_}
 use native.Mathlib.Omega.{arith}
-use mathlib.Core.Path.{_≡_, refl, sym, ap, _∙_}
+use mathlib.Core.Path.{_≡_, refl, sym, _∙_}
 use mathlib.Core.Bool.{Bool, true, false, _&&_}
 use lib.Dec.{ltb}
 use borrow.Author.Tests.{ltb-true, ltb-false, eq-eqb, ne-eqb, lt-ltb, le-ltb}
 use Rattle.word.specs.Word.{if_then_else_}
 use Rattle.rules.specs.declared.Clock.{Clock}
 use Rattle.rules.specs.declared.Cpu.{Cpu}
-use Rattle.rules.specs.declared.Due.{Due}
-use Rattle.rules.specs.declared.Due.the-variants.{Nothing, Now}
-use Rattle.rules.specs.declared.Interrupt.{Interrupt}
 use Rattle.rules.specs.declared.Next.{Next}
-use Rattle.rules.specs.Clock.{keyComes, dueOf}
+use Rattle.rules.specs.Clock.{keyComes}
 use Rattle.clock.specs.Taken.{KeyFits}
-use Rattle.clock.specs.Quiet.{least, beforeKey, beforeTimer, unlessDue, quietSteps}
+use Rattle.clock.specs.Quiet.{least, beforeKey, beforeTimer}
 
 -- ---- the smaller of two numbers
 least-first : (m n : ℕ) → m < n → m ≡ least m n
@@ -80,19 +77,3 @@ module _ (t : Clock) (left : ℕ) where
     pub timer-later : left ≤ t .timeout - t .timer → left ≡ beforeTimer t left
     unfolding beforeTimer
     timer-later h = rw (ne-eqb _ _ e) (least-second _ _ h)
-
--- ---- both, in a machine that does not wait
-module _ (k : Next) (c : Cpu) (left : ℕ) (w : c .system .waiting ≡ false) {d : Due} (e : d ≡ dueOf c) where
-  by-due : (x : Due) → d ≡ x → quietSteps k c left ≡ unlessDue x (beforeTimer (c .clock) (beforeKey k (c .regs .count) left))
-  unfolding quietSteps
-  by-due x f =
-      let n = beforeTimer (c .clock) (beforeKey k (c .regs .count) left) in
-      ap (λ (b : Bool). if b then 0 else unlessDue (dueOf c) n) w ∙ ap (λ (y : Due). unlessDue y n) (sym e ∙ f)
-
-  -- an interrupt is due
-  pub quiet-none : {i : Interrupt} → d ≡ Now i → 0 ≡ quietSteps k c left
-  quiet-none {i} f = sym (by-due (Now i) f)
-
-  -- nothing is
-  pub quiet-both : {m n : ℕ} → d ≡ Nothing → m ≡ beforeKey k (c .regs .count) left → n ≡ beforeTimer (c .clock) m → n ≡ quietSteps k c left
-  quiet-both f g h = h ∙ ap (beforeTimer (c .clock)) g ∙ sym (by-due Nothing f)

@@ -2,7 +2,7 @@
 // due), and the record after them.
 ghost use mathlib.Core.Path.{_≡_};
 ghost use Prim.Native.Nat.{_+_, _<_};
-ghost use Rattle.clock.specs.Quiet.{beforeKey, beforeTimer, quietSteps, Room, afterQuiet};
+ghost use Rattle.clock.specs.Quiet.{beforeKey, beforeTimer, unlessDue, quietSteps, Room, afterQuiet};
 use crate::due_trap;
 use rules::Clock;
 use rules::Cpu;
@@ -44,6 +44,16 @@ fn before_timer(t: Clock, left: u64) -> u64
     left
 }
 
+// n steps where nothing is due, and else none.
+fn unless_due(d: Due, n: u64) -> u64
+    ensures { λ r. ⌜ r ≡ unlessDue d n ⌝ }
+{
+    match d {
+        Due::Nothing => n,
+        Due::Now(i) => 0,
+    }
+}
+
 // In how many of the next `left` steps the clock only counts; none where the machine waits or an interrupt is due.
 pub fn steps(k: Next, c: Cpu, left: u64) -> u64
     ensures { λ n. ⌜ n ≡ quietSteps k c left ⌝ }
@@ -51,12 +61,9 @@ pub fn steps(k: Next, c: Cpu, left: u64) -> u64
     if c.system.waiting {
         return 0;
     }
-    let d = due_trap(c);
-    let Due::Nothing = d else {
-        return 0;
-    };
-    let n = before_key(k, c.regs.count, left);
-    before_timer(c.clock, n)
+    let m = before_key(k, c.regs.count, left);
+    let n = before_timer(c.clock, m);
+    unless_due(due_trap(c), n)
 }
 
 // The record after such steps from c, which left registers and step count r.

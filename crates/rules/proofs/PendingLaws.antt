@@ -129,15 +129,15 @@ module _ (c : Cpu) where
   }
 
   -- an interrupt's frame, stored or not
-  interrupt-pending : (i : Interrupt) → dueOf c ≡ Now i → (r : Reply)
-      → Leaves (PendingEnd c) (framed (awake c) (cleared i (c .clock .pending)) (interruptCode i) (c .regs .pc) r)
-  interrupt-pending i e (got v) = at-leaf (one-cleared i e refl refl)
-  interrupt-pending i e (denied f) = at-leaf (both-kept refl)
+  interrupt-pending : (i : Interrupt) (pc : ℕ) → dueOf c ≡ Now i → (r : Reply)
+      → Leaves (PendingEnd c) (framed (awake c) (cleared i (c .clock .pending)) (interruptCode i) pc r)
+  interrupt-pending i pc e (got v) = at-leaf (one-cleared i e refl refl)
+  interrupt-pending i pc e (denied f) = at-leaf (both-kept refl)
 
   every-pending : (size consoleSize : ℕ) → Leaves (PendingEnd c) (dueTree (dueOf c) size consoleSize c)
   unfolding deliverTree
   every-pending size consoleSize =
-      every-step (λ o. Unit {0}) (keeping size consoleSize) (λ x r vs g o. both-kept g) (dueOf c) c refl (λ i e. at-ask (interrupt-pending i e)) (leaves-all _)
+      every-step (λ o. Unit {0}) (keeping size consoleSize) (λ x r vs g o. both-kept g) (dueOf c) c refl (λ i e. at-ask (interrupt-pending i _ e)) (leaves-all _)
 
   -- ---- what is due is delivered, or the machine stops with 3
   module _ (i : Interrupt) where
@@ -145,13 +145,13 @@ module _ (c : Cpu) where
       stored : f .effect ≡ deliver (interruptCode i) → f .cpu .clock .pending ≡ cleared i (c .clock .pending) → DueEnd f
       refused : f .cpu .stop ≡ NoFrame → f .cpu .clock .pending ≡ c .clock .pending → DueEnd f
 
-    due-frame : (r : Reply) → Leaves DueEnd (framed (awake c) (cleared i (c .clock .pending)) (interruptCode i) (c .regs .pc) r)
-    due-frame (got v) = at-leaf (stored refl refl)
-    due-frame (denied f) = at-leaf (refused refl refl)
+    due-frame : (pc : ℕ) (r : Reply) → Leaves DueEnd (framed (awake c) (cleared i (c .clock .pending)) (interruptCode i) pc r)
+    due-frame pc (got v) = at-leaf (stored refl refl)
+    due-frame pc (denied f) = at-leaf (refused refl refl)
 
     due-end : (size consoleSize : ℕ) → dueOf c ≡ Now i → Leaves DueEnd (dueTree (dueOf c) size consoleSize c)
     unfolding dueTree deliverTree
-    due-end size consoleSize e = subst (λ (d : Due). Leaves DueEnd (dueTree d size consoleSize c)) (sym e) (at-ask due-frame)
+    due-end size consoleSize e = subst (λ (d : Due). Leaves DueEnd (dueTree d size consoleSize c)) (sym e) (at-ask (due-frame _))
 
 -- a delivery clears its own mark
 cleared-own : (i : Interrupt) (p : Pending) → isPending i (cleared i p) ≡ false
