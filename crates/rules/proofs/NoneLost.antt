@@ -14,7 +14,7 @@ use Rattle.rules.specs.Record.{isRunning}
 use Rattle.rules.specs.Clock.{nextOf, ticked}
 use Rattle.rules.specs.Step.{State, Stepped, step}
 use Rattle.rules.specs.Run.{ran, stepsOf, lastOf, allowance, runAnswer, run}
-use Rattle.rules.specs.Pending.{happens, pendingOf, Delivered, PendingAfter, kept, clear, DeliveredIn, here, later, NotLost, in-time, at-end}
+use Rattle.rules.specs.Pending.{happens, pendingOf, PendingAfter, kept, clear, DeliveredIn, here, later, NotLost, in-time, at-end}
 use Rattle.rules.proofs.PendingLaws.{event-sets, pending-after}
 
 -- rules 1 to 3 keep what is pending

@@ -16,4 +16,9 @@ returns-2 c =
     rw (c .unless-due .ensures, c .before .due-trap .ensures, c .before .before .before-timer .ensures, before-key .ensures, if1 .left)
 
 pub steps-spec : {M : Type 1} → statement M
-steps-spec = tie.close (tie.spec returns (λ c κs. search needs) (λ c κs. search needs) (λ c κs. search needs) (λ c κs. search needs) returns-2)
+steps-spec =
+    tie.close
+    (tie.spec
+    returns
+    (λ c κs. search needs) (λ c κs. search needs) (λ c κs. search needs) (λ c κs. search needs)
+    returns-2)
