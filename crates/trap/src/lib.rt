@@ -114,7 +114,8 @@ fn no_frame(c: Cpu) -> Cpu
 
 // ---- traps
 
-// Both slots of the frame are translated for kernel writing before either is stored. `left` is what stays pending, where the frame is stored.
+// A trap's delivery: `left` is what stays pending, where the frame is stored.
+// Both slots of the frame are translated for kernel writing before either is stored.
 pub fn deliver(
     c: Cpu,
     left: Pending,
