@@ -23,16 +23,17 @@ use Rattle.rules.specs.declared.Key.{Key}
 use Rattle.rules.specs.declared.Next.{Next}
 use Rattle.rules.specs.declared.Pending.{Pending}
 use Rattle.rules.specs.declared.Regs.{Regs}
-use Rattle.rules.specs.Record.{setPc, setSp, withRegs, withSystem, withIena, withClock, withTimer, withTimeout, withPending, withTimerPending, withWritten, putPending}
+use Rattle.rules.specs.Record.{setPc, setSp, withRegs, withSystem, withIena, withClock, withTimeout, withWritten, putPending}
 use Rattle.rules.specs.Tree.{Reply, got, denied, Tree, interpret}
 use Rattle.rules.specs.Outcome.{fine}
 use Rattle.rules.specs.Execute.{moved}
 use Rattle.rules.specs.Trap.{Effect, none as nothing, setSpace, deliver, print, Final, ended, entered, framed, deliverTree}
 use Rattle.rules.specs.System.{computed, backTo, returned, appended, directed}
-use Rattle.rules.specs.Clock.{nextOf, keyComes, keyed, timerFires, timed, ticked, dueOf}
+use Rattle.rules.specs.Clock.{nextOf, keyComes, keyed, ticked, dueOf}
 use Rattle.rules.specs.Step.{awake, interruptTree, stepTree, State, spaceAfter, consoleAfter, step}
 use Rattle.rules.proofs.Leaves.{Leaves, at-leaf, at-ask, leaf-at}
 use Rattle.rules.proofs.StepTree.{Shapes, every-step}
+use Rattle.rules.proofs.PendingLaws.{timed-pending}
 use Rattle.rules.proofs.AcceptableRecord.{Tested, Passes, Directory, Acceptable}
 use Rattle.acceptable.proofs.AlignedInstruction.{OutAligned, instruction-aligned}
 
@@ -145,16 +146,6 @@ module _ (size keys consoleSize : ℕ) (s : Space) (d : Directory size (s .pdir)
 
 -- ---- rules 1 to 3
 
--- the timer leaves the keys taken
-timed-taken : (t : Clock) → timed t .taken ≡ t .taken
-timed-taken t = go (timerFires t) (eqb (t .timeout) 0)
-  where
-    go : (fires off : Bool)
-        → (if fires then withPending (withTimerPending true (t .pending)) (withTimer 0 t) else (if off then t else withTimer (t .timer + 1) t)) .taken ≡ t .taken
-    go true off = refl
-    go false true = refl
-    go false false = refl
-
 -- a key is taken only if there is one
 keyed-listed : (keys : ℕ) (k : Next) (comes : Bool) (t : Clock) → (comes ≡ true → t .taken < keys) → t .taken ≤ keys → keyed k comes t .taken ≤ keys
 keyed-listed keys k true t more h = omega (arith, more refl)
@@ -166,7 +157,7 @@ ticked-acceptable : {size keys consoleSize : ℕ} (k : Next) (c : Cpu) → (k .s
 unfolding ticked
 ticked-acceptable {keys = keys} k c more g =
     let l = keyed-listed keys k (keyComes k c) (c .clock) (λ e. more (both (k .some) (leb (k .step) (c .regs .count + 1)) e .0)) (g .passes .listed) in
-    record { passes = omega (arith, g .passes, l, timed-taken (keyed k (keyComes k c) (c .clock))); directory = g .directory }
+    record { passes = omega (arith, g .passes, l, timed-pending (keyed k (keyComes k c) (c .clock)) .1); directory = g .directory }
 
 -- a whole step: k is the next key of a list of `keys`
 step-acceptable : {size keys consoleSize : ℕ} (k : Next) (c : Cpu) → (k .some ≡ true → c .clock .taken < keys) → Acceptable size keys consoleSize c

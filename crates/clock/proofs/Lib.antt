@@ -1,3 +1,2 @@
-pub mod Interrupts
 pub mod Before
 pub mod QuietSteps

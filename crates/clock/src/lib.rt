@@ -71,11 +71,14 @@ pub fn tick(k: Next, c: Cpu) -> Cpu
 pub fn due_trap(c: Cpu) -> Due
     ensures { λ d. ⌜ d ≡ dueOf c ⌝ }
 {
+    if !c.system.iena {
+        return Due::Nothing;
+    }
     let p = c.clock.pending;
-    if c.system.iena & p.key {
+    if p.key {
         return Due::Now(Interrupt::Keyboard);
     }
-    if c.system.iena & p.timer {
+    if p.timer {
         return Due::Now(Interrupt::Timer);
     }
     Due::Nothing

@@ -1,9 +1,9 @@
 -- Document 02, item 1: an interrupt that is pending where a run starts is delivered in the run, or pending where it ends. So none is lost over any list of runs,
 -- and one whose event happens in a step is pending after it, or delivered in it (`event-sets`, `pending-after`).
 use Prim.Native.Nat.{ℕ, zero, suc}
-use mathlib.Core.Bool.{Bool, true, false, _||_}
+use mathlib.Core.Bool.{Bool, true, false, _||_, or-true}
 use mathlib.Core.List.{List, [], _∷_}
-use mathlib.Core.Path.{_≡_, refl, ap, _∙_}
+use mathlib.Core.Path.{_≡_, ap, _∙_}
 use Rattle.word.specs.Word.{if_then_else_}
 use Rattle.paging.specs.Translate.{Translator}
 use Rattle.rules.specs.declared.Cpu.{Cpu}
@@ -18,10 +18,6 @@ use Rattle.rules.specs.Pending.{happens, pendingOf, PendingAfter, kept, 
 use Rattle.rules.proofs.PendingLaws.{event-sets, pending-after}
 
 -- rules 1 to 3 keep what is pending
-or-true : (b : Bool) → b || true ≡ true
-or-true true = refl
-or-true false = refl
-
 ticked-keeps : (i : Interrupt) (next : Next) (c : Cpu) → pendingOf i c ≡ true → pendingOf i (ticked next c) ≡ true
 ticked-keeps i next c p = event-sets i next c ∙ ap (λ (b : Bool). happens i next c || b) p ∙ or-true (happens i next c)
 

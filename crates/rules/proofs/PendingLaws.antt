@@ -15,7 +15,7 @@ use Rattle.paging.specs.Walk.{bit}
 use Rattle.rules.specs.declared.Clock.{Clock}
 use Rattle.rules.specs.declared.Cpu.{Cpu}
 use Rattle.rules.specs.declared.Due.{Due}
-use Rattle.rules.specs.declared.Due.the-variants.{Now}
+use Rattle.rules.specs.declared.Due.the-variants.{Nothing, Now}
 use Rattle.rules.specs.declared.Interrupt.{Interrupt}
 use Rattle.rules.specs.declared.Interrupt.the-variants.{Keyboard, Timer}
 use Rattle.rules.specs.declared.Key.{Key}
@@ -34,16 +34,17 @@ use Rattle.rules.proofs.StepTree.{Shapes, every-step}
 
 -- ---- "a key or timer event always sets its mark"
 
--- rule 3: the timer's mark is set where the timer fires, and the key's is left
-timed-pending : (t : Clock) → timed t .pending ≡ withTimerPending (timerFires t || t .pending .timer) (t .pending)
+-- rule 3: the timer's mark is set where the timer fires; the key's mark and the keys taken are left
+pub timed-pending : (t : Clock) → (timed t .pending ≡ withTimerPending (timerFires t || t .pending .timer) (t .pending)) × (timed t .taken ≡ t .taken)
 timed-pending t = go (timerFires t) (eqb (t .timeout) 0)
   where
-    go : (fires off : Bool)
-        → (if fires then withPending (withTimerPending true (t .pending)) (withTimer 0 t) else (if off then t else withTimer (t .timer + 1) t)) .pending
-        ≡ withTimerPending (fires || t .pending .timer) (t .pending)
-    go true off = refl
-    go false true = refl
-    go false false = refl
+    after : (fires off : Bool) → Clock
+    after fires off = if fires then withPending (withTimerPending true (t .pending)) (withTimer 0 t) else (if off then t else withTimer (t .timer + 1) t)
+
+    go : (fires off : Bool) → (after fires off .pending ≡ withTimerPending (fires || t .pending .timer) (t .pending)) × (after fires off .taken ≡ t .taken)
+    go true off = (refl, refl)
+    go false true = (refl, refl)
+    go false false = (refl, refl)
 
 -- rule 2: the key's mark is set where a key comes
 keyed-key : (next : Next) (comes : Bool) (t : Clock) → keyed next comes t .pending .key ≡ comes || t .pending .key
@@ -60,20 +61,28 @@ pub event-sets : (i : Interrupt) (next : Next) (c : Cpu) → pendingOf i (ticked
 unfolding ticked
 event-sets Keyboard next c =
     let t = keyed next (keyComes next c) (c .clock) in
-    ap (isPending Keyboard) (timed-pending t) ∙ keyed-key next (keyComes next c) (c .clock)
+    ap (isPending Keyboard) (timed-pending t .0) ∙ keyed-key next (keyComes next c) (c .clock)
 event-sets Timer next c =
     let t = keyed next (keyComes next c) (c .clock) in
-    ap (isPending Timer) (timed-pending t) ∙ keyed-timer next (keyComes next c) (c .clock)
+    ap (isPending Timer) (timed-pending t .0) ∙ keyed-timer next (keyComes next c) (c .clock)
 
 -- ---- "in a step with iena = 1 the first marked one, key before timer, is due"
 
-key-due : (c : Cpu) → c .system .iena ≡ true → pendingOf Keyboard c ≡ true → dueOf c ≡ Now Keyboard
+pub masked-due : (c : Cpu) → c .system .iena ≡ false → dueOf c ≡ Nothing
+unfolding dueOf
+masked-due c e = rw e
+
+pub key-due : (c : Cpu) → c .system .iena ≡ true → pendingOf Keyboard c ≡ true → dueOf c ≡ Now Keyboard
 unfolding dueOf
 key-due c e k = rw (e, k)
 
-timer-due : (c : Cpu) → c .system .iena ≡ true → pendingOf Keyboard c ≡ false → pendingOf Timer c ≡ true → dueOf c ≡ Now Timer
+pub timer-due : (c : Cpu) → c .system .iena ≡ true → pendingOf Keyboard c ≡ false → pendingOf Timer c ≡ true → dueOf c ≡ Now Timer
 unfolding dueOf
 timer-due c e k t = rw (e, k, t)
+
+pub unmarked-due : (c : Cpu) → c .system .iena ≡ true → pendingOf Keyboard c ≡ false → pendingOf Timer c ≡ false → dueOf c ≡ Nothing
+unfolding dueOf
+unmarked-due c e k t = rw (e, k, t)
 
 -- ---- the marks at the end of a step, where c is the record after rules 1 to 3
 
