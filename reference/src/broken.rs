@@ -2,10 +2,10 @@
 //! edges. Every one has two good cases in front, so that lines come before the
 //! last.
 
-use crate::case::decode::Broken::{self, Bounds, Cut, Malformed};
 use crate::case::encode::encode;
 use crate::case::numbers::NAMES;
 use crate::case::{Case, Load, Runs};
+use crate::stream::Broken::{self, Bounds, Cut, Malformed};
 use crate::types::Registers;
 use crate::worked::op;
 

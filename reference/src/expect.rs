@@ -1,7 +1,7 @@
 //! What must come out of a case: one line of decimal numbers a run or load.
 //! FORMAT.md names the fields.
 
-use crate::case::decode::Stream;
+use crate::case::decode::cases;
 use crate::case::numbers::numbers;
 use crate::case::{Case, Load, Runs};
 use crate::coverage::Coverage;
@@ -96,7 +96,7 @@ pub fn lines(number: usize, case: &Case, played: &Played) -> Vec<String> {
 pub fn expect(stream: &[u8], output: &mut impl Write) -> io::Result<Coverage> {
     let mut coverage = Coverage::default();
     let mut number = 0;
-    for case in Stream(stream) {
+    for case in cases(stream) {
         let case = match case {
             Ok(case) => case,
             Err(broken) => {

@@ -26,6 +26,7 @@ pub mod random;
 pub mod run;
 pub mod step;
 pub mod stored;
+pub mod stream;
 pub mod table_reader;
 pub mod translate;
 pub mod trap;

@@ -1,7 +1,7 @@
 //! The commands; `README.md` describes them.
 
 use reference::broken::streams;
-use reference::case::decode::{read_all, Broken};
+use reference::case::decode::read_all;
 use reference::case::encode::encode;
 use reference::case::numbers::NAMES;
 use reference::case::Case;
@@ -16,6 +16,7 @@ use reference::mutants::Judge;
 use reference::random::executables::random_file;
 use reference::random::scene::{case, Purpose};
 use reference::stored::stored_set;
+use reference::stream::Broken;
 use std::fs;
 use std::io::{self, BufWriter, Read, Write};
 use std::ops::Range;

@@ -3,78 +3,17 @@
 use super::numbers::{registers, NAMES};
 use super::{Case, Load, RunInput, Runs, ALL_ENTRIES, KIND_LOAD, KIND_RUNS};
 use super::{MAX_CASE, MAX_CONSOLE, MAX_KEYS, MAX_MEMORY, MAX_RUNS};
+use crate::stream::{well_formed, within, Broken, Cursor, Stream};
 use crate::types::{Buffer, Entry, Key, Record, Registers, CAPACITY};
-use std::fmt;
 
-/// How a stream is broken.
-#[derive(Clone, Copy, Debug, PartialEq, Eq)]
-pub enum Broken {
-    /// It ends within a case.
-    Cut,
-    /// A case is beyond the format's bounds.
-    Bounds,
-    /// A case's parts don't fit its length, or contradict each other.
-    Malformed,
+/// The cases of a stream.
+pub fn cases(bytes: &[u8]) -> Stream<'_, Case> {
+    Stream { bytes, longest: MAX_CASE, decode }
 }
 
-impl fmt::Display for Broken {
-    fn fmt(&self, f: &mut fmt::Formatter) -> fmt::Result {
-        f.write_str(match self {
-            Broken::Cut => "cut",
-            Broken::Bounds => "bounds",
-            Broken::Malformed => "malformed",
-        })
-    }
-}
-
-/// The cases of a stream. Nothing comes after a broken one.
-pub struct Stream<'a>(pub &'a [u8]);
-
-impl Iterator for Stream<'_> {
-    type Item = Result<Case, Broken>;
-
-    fn next(&mut self) -> Option<Self::Item> {
-        let case = match split(self.0) {
-            Ok(None) => return None,
-            Ok(Some((bytes, rest))) => {
-                self.0 = rest;
-                decode(bytes)
-            }
-            Err(broken) => Err(broken),
-        };
-        if case.is_err() {
-            self.0 = &[];
-        }
-        Some(case)
-    }
-}
-
-/// All cases of a stream.
+/// All of them.
 pub fn read_all(bytes: &[u8]) -> Result<Vec<Case>, Broken> {
-    Stream(bytes).collect()
-}
-
-/// A case's bytes after its length, and what follows them.
-type Parts<'a> = (&'a [u8], &'a [u8]);
-
-/// `None` at the stream's end.
-fn split(bytes: &[u8]) -> Result<Option<Parts<'_>>, Broken> {
-    if bytes.is_empty() {
-        return Ok(None);
-    }
-    let (prefix, rest) = bytes.split_at_checked(4).ok_or(Broken::Cut)?;
-    let length = Cursor(prefix).size()?;
-    if length == 0 {
-        return Ok(None);
-    }
-    if length > MAX_CASE {
-        return Err(Broken::Bounds);
-    }
-    if length > bytes.len() {
-        return Err(Broken::Cut);
-    }
-    let after_prefix = length.checked_sub(4).ok_or(Broken::Malformed)?;
-    Ok(Some(rest.split_at(after_prefix)))
+    cases(bytes).collect()
 }
 
 /// A case from its bytes after the length.
@@ -85,61 +24,11 @@ fn decode(bytes: &[u8]) -> Result<Case, Broken> {
         KIND_LOAD => Case::Load(cursor.load()?),
         _ => return Err(Broken::Malformed),
     };
-    well_formed(cursor.0.is_empty())?;
+    cursor.end()?;
     Ok(case)
 }
 
-fn well_formed(holds: bool) -> Result<(), Broken> {
-    if holds {
-        Ok(())
-    } else {
-        Err(Broken::Malformed)
-    }
-}
-
-fn within(holds: bool) -> Result<(), Broken> {
-    if holds {
-        Ok(())
-    } else {
-        Err(Broken::Bounds)
-    }
-}
-
-/// The bytes not yet read.
-struct Cursor<'a>(&'a [u8]);
-
-impl<'a> Cursor<'a> {
-    fn take(&mut self, length: usize) -> Result<&'a [u8], Broken> {
-        let (taken, rest) = self.0.split_at_checked(length).ok_or(Broken::Malformed)?;
-        self.0 = rest;
-        Ok(taken)
-    }
-
-    fn number(&mut self, size: usize) -> Result<u64, Broken> {
-        let bytes = self.take(size)?;
-        Ok(bytes.iter().rev().fold(0, |number, byte| (number << 8) | u64::from(*byte)))
-    }
-
-    fn get32(&mut self) -> Result<u32, Broken> {
-        Ok(self.number(4)? as u32)
-    }
-
-    fn get64(&mut self) -> Result<u64, Broken> {
-        self.number(8)
-    }
-
-    fn size(&mut self) -> Result<usize, Broken> {
-        Ok(self.get32()? as usize)
-    }
-
-    fn sizes<const N: usize>(&mut self) -> Result<[usize; N], Broken> {
-        let mut sizes = [0; N];
-        for size in &mut sizes {
-            *size = self.size()?;
-        }
-        Ok(sizes)
-    }
-
+impl Cursor<'_> {
     fn load(&mut self) -> Result<Load, Broken> {
         let [memory_length, fill, file_length] = self.sizes()?;
         within(memory_length <= MAX_MEMORY)?;
