@@ -8,27 +8,31 @@ use crate::opcodes::kinds::{sets_stack, sets_target, takes_imm, writes};
 use crate::opcodes::sets::{is_privileged, ILLEGAL, LEGAL, PRIVILEGED};
 
 /// Mistakes of one kind.
-pub struct Family {
-    /// What the planted machine does, with the family's numbers in brackets.
+pub struct Family<M> {
+    /// What the planted code does, with the family's numbers in brackets.
     pub text: &'static str,
-    pub members: Vec<Mistake>,
+    pub members: Vec<M>,
 }
 
-fn family(text: &'static str, members: impl IntoIterator<Item = Mistake>) -> Family {
+pub fn family<M>(text: &'static str, members: impl IntoIterator<Item = M>) -> Family<M> {
     Family { text, members: members.into_iter().collect() }
 }
 
 /// A mistake for each legal opcode of which something holds.
-fn by_opcode(text: &'static str, holds: fn(Op) -> bool, mistake: fn(u8) -> Mistake) -> Family {
+fn by_opcode(
+    text: &'static str,
+    holds: fn(Op) -> bool,
+    mistake: fn(u8) -> Mistake,
+) -> Family<Mistake> {
     let codes = LEGAL.iter().filter(|code| decode(**code).is_some_and(holds));
     family(text, codes.map(|code| mistake(*code)))
 }
 
-pub fn families() -> Vec<Family> {
+pub fn families() -> Vec<Family<Mistake>> {
     [opcodes(), operands(), accesses(), numbers()].into_iter().flatten().collect()
 }
 
-fn opcodes() -> Vec<Family> {
+fn opcodes() -> Vec<Family<Mistake>> {
     let others = |code: u8| LEGAL.iter().map(move |other| (code, *other));
     let unequal = |(code, other): (u8, u8)| (code != other).then_some(Mistake::As(code, other));
     let closed = LEGAL.iter().filter(|code| !is_privileged(**code));
@@ -47,7 +51,7 @@ fn opcodes() -> Vec<Family> {
     ]
 }
 
-fn operands() -> Vec<Family> {
+fn operands() -> Vec<Family<Mistake>> {
     use Mistake::{ImmediateIsShort, ImmediateIsUnsigned, StackKeepsLowBits, TargetKeepsLowBits};
     vec![
         by_opcode("opcode [0] takes imm as an unsigned number", takes_imm, ImmediateIsUnsigned),
@@ -57,7 +61,7 @@ fn operands() -> Vec<Family> {
     ]
 }
 
-fn accesses() -> Vec<Family> {
+fn accesses() -> Vec<Family<Mistake>> {
     use Mistake::{AsKernel, FaultOwnPc, ReadsAsWrite, VadrDropped, WritesAsRead};
     let either = |op: Op| reads(op) || writes(op);
     vec![
@@ -75,7 +79,7 @@ fn pairs(numbers: &[u32]) -> Vec<Mistake> {
     (0..numbers.len()).flat_map(from).map(|(low, high)| Mistake::Order(low, high)).collect()
 }
 
-fn numbers() -> Vec<Family> {
+fn numbers() -> Vec<Family<Mistake>> {
     let codes = (0..10).flat_map(|code| [(code, false), (code, true)]);
     // FPRIV comes from user mode only.
     let codes = codes.filter(|code| *code != (3, false));

@@ -17,6 +17,7 @@ pub mod expect;
 pub mod families;
 pub mod line;
 pub mod line_files;
+pub mod listing;
 pub mod load;
 pub mod machine;
 pub mod mistake;

@@ -3,24 +3,28 @@
 //! `mutants` command and the tests plant them to show that the cases tell them
 //! apart.
 
+/// An enum of mistakes: those that stand alone, each with what the planted code
+/// does instead of the rule, then families by opcode, number or the like.
 macro_rules! mistakes {
-    ($($name:ident: $text:literal,)*; $($family:ident($($of:ty),*),)*) => {
+    ($type:ident: $($name:ident: $text:literal,)*; $($family:ident($($of:ty),*),)*) => {
         #[derive(Clone, Copy, Debug, PartialEq, Eq)]
-        pub enum Mistake { $($name,)* $($family($($of),*),)* }
+        pub enum $type { $($name,)* $($family($($of),*),)* }
 
-        impl Mistake {
-            /// Those that stand alone; `families.rs` has the others.
-            pub const ALL: &'static [Mistake] = &[$(Mistake::$name,)*];
+        impl $type {
+            /// Those that stand alone.
+            pub const ALL: &'static [$type] = &[$($type::$name,)*];
 
-            /// What the planted machine does instead of the rule.
+            /// What the planted code does instead of the rule.
             pub fn text(self) -> &'static str {
-                match self { $(Mistake::$name => $text,)* _ => "" }
+                match self { $($type::$name => $text,)* _ => "" }
             }
         }
     };
 }
+pub(crate) use mistakes;
 
 mistakes! {
+    Mistake:
     // Document 01, "Slips to shut out".
     LhiShiftedAgain: "LHI, LBHI: the field is shifted right by 8",
     BranchFromOwnAddress: "a branch adds its offset to its own address",
