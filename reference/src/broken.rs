@@ -45,7 +45,8 @@ pub fn load() -> Vec<u8> {
     encode(&Case::Load(Load { memory_length: 4096, fill: 1, file: vec![2; 9] }))
 }
 
-fn changed(mut bytes: Vec<u8>, at: usize, value: u32) -> Vec<u8> {
+/// Bytes with another number at `at`.
+pub fn changed(mut bytes: Vec<u8>, at: usize, value: u32) -> Vec<u8> {
     bytes[at..at + 4].copy_from_slice(&value.to_le_bytes());
     bytes
 }
@@ -56,7 +57,7 @@ fn with(at: usize, value: u32) -> Vec<u8> {
 }
 
 /// Bytes added or taken at the end, and the length as it then is.
-fn sized(mut bytes: Vec<u8>, length: usize) -> Vec<u8> {
+pub fn sized(mut bytes: Vec<u8>, length: usize) -> Vec<u8> {
     bytes.resize(length, 0);
     changed(bytes, 0, length as u32)
 }

@@ -6,6 +6,7 @@
 pub mod access;
 pub mod broken;
 pub mod buffer;
+pub mod calls;
 pub mod case;
 pub mod clock;
 pub mod compare;

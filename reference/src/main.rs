@@ -1,6 +1,9 @@
 //! The commands; `README.md` describes them.
 
-use reference::broken::streams;
+mod call_commands;
+
+use reference::broken::{streams, Stream};
+use reference::calls::broken::streams as broken_calls;
 use reference::case::decode::read_all;
 use reference::case::encode::encode;
 use reference::case::numbers::NAMES;
@@ -39,7 +42,15 @@ const USAGE: &str = "usage:
   reference write-files                         executables, each with its length in front
   reference write-broken [--number N]           broken streams, each with its length in front;
                                                 or one of them as it is
-  reference lines < files                       the run program's line of each";
+  reference lines < files                       the run program's line of each
+  reference list < executable                   its listing
+  reference unlist < lines                      the address and word of each listed line
+  reference write-calls                         the stored calls, in CALLS.md's bytes
+  reference calls < calls                       what must come out of each call
+  reference random-calls [--seed S] [--first F] [--count N]
+                                                random calls, in the same bytes
+  reference call-mutants < calls                which calls tell planted mistakes apart
+  reference write-broken-calls [--number N]     as write-broken, of calls";
 
 type Done = Result<(), String>;
 
@@ -72,8 +83,17 @@ fn command(words: &[String]) -> Done {
         "random-file" => print_file(seed, option(options, "--number", 0)?),
         "random-files" => print_files(seed, numbers),
         "write-files" => write_files(),
-        "write-broken" => write_broken(option(options, "--number", u64::MAX)?),
+        "write-broken" => write_streams(&streams(), option(options, "--number", u64::MAX)?),
         "lines" => print_lines(),
+        "list" => call_commands::list(),
+        "unlist" => call_commands::unlist(),
+        "write-calls" => call_commands::write_stored(),
+        "calls" => call_commands::print_expected(),
+        "random-calls" => call_commands::write_random(seed, numbers),
+        "call-mutants" => call_commands::print_mutants(),
+        "write-broken-calls" => {
+            write_streams(&broken_calls(), option(options, "--number", u64::MAX)?)
+        }
         _ => Err(USAGE.to_string()),
     }
 }
@@ -169,9 +189,8 @@ fn print_lines() -> Done {
     Ok(())
 }
 
-/// All broken streams, or one of them as it is.
-fn write_broken(number: u64) -> Done {
-    let streams = streams();
+/// All of these streams, or one of them as it is.
+fn write_streams(streams: &[Stream], number: u64) -> Done {
     let list = match usize::try_from(number).ok().and_then(|number| streams.get(number)) {
         Some((_, stream)) => stream.clone(),
         None => streams.iter().flat_map(|(_, stream)| with_length(stream)).collect(),

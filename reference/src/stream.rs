@@ -1,4 +1,4 @@
-//! What streams of cases (FORMAT.md) and of calls share: items that
+//! What streams of cases (FORMAT.md) and of calls (CALLS.md) share: items that
 //! begin with their length, and the ways in which a stream can be broken.
 
 use std::fmt;

@@ -1,5 +1,6 @@
 //! Random cases. Everything follows from a seed and a case's number.
 
+pub mod calls;
 pub mod executables;
 pub mod files;
 mod interrupts;
