@@ -4,7 +4,7 @@ use super::format::calls;
 use super::Call;
 use crate::listing::mistake::ListingMistake;
 use crate::listing::unlist::unlist_with;
-use crate::listing::{line_at, list_with};
+use crate::listing::Listing;
 use std::io::{self, Write};
 
 /// What a line of output has after the call's number, if anything.
@@ -14,9 +14,9 @@ pub type Answer = Option<String>;
 pub fn answers(call: &Call, mistake: Option<ListingMistake>) -> Vec<Answer> {
     match call {
         Call::Lines { first, count, file } => {
-            let lines = list_with(file, mistake);
+            let listing = Listing::new(file, mistake);
             let numbers = (0..*count).map(|nth| first.wrapping_add(u64::from(nth)));
-            numbers.map(|number| line_at(&lines, number, mistake).cloned()).collect()
+            numbers.map(|number| listing.line(number)).collect()
         }
         Call::Read(line) => {
             let (answer, address, word) = unlist_with(line, mistake);

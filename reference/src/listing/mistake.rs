@@ -58,6 +58,7 @@ mistakes! {
     AcceptsUpperTarget: "a target in upper case passes",
     AcceptsLowerName: "a mnemonic in lower case passes",
     AcceptsUpperData: "data in upper case passes",
+    AcceptsNextDigit: "a colon passes as the hexadecimal digit after 9",
     AcceptsShortAddress: "an address without leading zeros passes",
     AcceptsShortWord: "a word without leading zeros passes",
     AcceptsShortTarget: "a target without leading zeros passes",
@@ -80,7 +81,8 @@ mistakes! {
     AcceptsOperandAnywhere: "an opcode without operand may have one",
     NameUncompared: "any mnemonic passes",
     OperandUncompared: "any number passes as operand",
-    OperandModulo: "an operand is compared modulo 2^24",
+    OperandByField: "an operand is compared modulo 2^24",
+    OperandByWord: "an operand is compared modulo 2^32",
     TargetUncompared: "any target passes",
     AssemblesWord: "the word is put together from mnemonic and operand",
     // Reading back: listed lines refused, and what a refused one gives.

@@ -11,39 +11,72 @@ use crate::words;
 use form::{form, mnemonic, operand, target, Form};
 use mistake::ListingMistake;
 
-/// The lines of a file's listing, without their newlines: one a word of the
-/// body, or the one that refuses the file.
+/// The lines of a file's listing, without their newlines.
 pub fn list(file: &[u8]) -> Vec<String> {
-    list_with(file, None)
+    let listing = Listing::new(file, None);
+    (0..).map_while(|number| listing.line(number)).collect()
 }
 
-/// `list`, with a planted mistake.
-pub fn list_with(file: &[u8], mistake: Option<ListingMistake>) -> Vec<String> {
-    let makes = |other: ListingMistake| mistake == Some(other);
-    let answer = answer(file, mistake);
-    if answer != 0 && !(makes(ListingMistake::RefusedListed) && file.len() >= HEADER) {
-        let silent = makes(ListingMistake::RefusedSilent);
-        return if silent { Vec::new() } else { vec![format!("refused {answer}")] };
-    }
-    let data_start = words::get(file, 12, 4);
-    let mut lines = Vec::new();
-    for (nth, word) in body_words(&file[HEADER..], mistake).into_iter().enumerate() {
-        let address = 4 * nth as u32;
-        let data = is_data(address, data_start, mistake);
-        if data && makes(ListingMistake::DataSkipped) {
-            break;
+/// What a file's listing is made of: one line a word of the body, or the one
+/// line that refuses the file.
+pub struct Listing {
+    /// What the run program's machine answers to the file.
+    answer: u32,
+    words: Vec<u32>,
+    data_start: u32,
+    mistake: Option<ListingMistake>,
+}
+
+impl Listing {
+    /// With a planted mistake if one is named.
+    pub fn new(file: &[u8], mistake: Option<ListingMistake>) -> Listing {
+        let mut answer = answer(file, mistake);
+        if mistake == Some(ListingMistake::RefusedListed) && file.len() >= HEADER {
+            answer = 0;
         }
-        let shown = match mistake {
+        let (mut words, mut data_start) = (Vec::new(), 0);
+        if answer == 0 {
+            data_start = words::get(file, 12, 4);
+            words = body_words(&file[HEADER..], mistake);
+        }
+        if mistake == Some(ListingMistake::DataSkipped) {
+            words.truncate(data_start.div_ceil(4) as usize);
+        }
+        Listing { answer, words, data_start, mistake }
+    }
+
+    /// Line `number`, from 0, without its newline; `None` where there is none.
+    pub fn line(&self, number: u64) -> Option<String> {
+        let nth = usize::try_from(self.seen_number(number)).ok()?;
+        if self.answer != 0 {
+            let shown = nth == 0 && self.mistake != Some(ListingMistake::RefusedSilent);
+            return shown.then(|| format!("refused {}", self.answer));
+        }
+        let word = *self.words.get(nth)?;
+        let address = 4 * nth as u32;
+        let data = is_data(address, self.data_start, self.mistake);
+        let shown = match self.mistake {
             Some(ListingMistake::HeaderCounted) => address + HEADER as u32,
             Some(ListingMistake::AddressInWords) => nth as u32,
             _ => address,
         };
-        lines.push(line_with(shown, word, data, mistake));
+        Some(line_with(shown, word, data, self.mistake))
     }
-    lines
+
+    /// The number itself, but for planted mistakes.
+    fn seen_number(&self, number: u64) -> u64 {
+        let last = self.words.len().saturating_sub(1) as u64;
+        match self.mistake {
+            Some(ListingMistake::NumberLowHalf) => number & 0xffff_ffff,
+            Some(ListingMistake::AddressLowHalf) => number & 0x3fff_ffff,
+            Some(ListingMistake::AddressWraps) => number & (u64::MAX >> 2),
+            Some(ListingMistake::LastRepeated) => number.min(last),
+            Some(ListingMistake::RefusedRepeated) if self.answer != 0 => 0,
+            _ => number,
+        }
+    }
 }
 
-/// What the run program's machine answers to the file.
 fn answer(file: &[u8], mistake: Option<ListingMistake>) -> u32 {
     let (size, planted) = match mistake {
         Some(ListingMistake::MachinePageLess) => (MEMORY - 4096, None),
@@ -57,24 +90,20 @@ fn answer(file: &[u8], mistake: Option<ListingMistake>) -> u32 {
 /// The words of a body, the last padded with zeros.
 fn body_words(body: &[u8], mistake: Option<ListingMistake>) -> Vec<u32> {
     let mut body = body.to_vec();
+    let short = body.len() / 4 * 4;
     let spare = body.len().next_multiple_of(4) - body.len();
     match mistake {
-        Some(ListingMistake::ShortWordDropped) => body.truncate(body.len() / 4 * 4),
+        Some(ListingMistake::ShortWordDropped) => body.truncate(short),
         Some(ListingMistake::ShortWordOnes) => body.resize(body.len() + spare, 0xff),
-        Some(ListingMistake::ShortWordHigh) => {
-            let short = body.len() / 4 * 4;
-            body.splice(short..short, vec![0; spare]);
-        }
+        Some(ListingMistake::ShortWordHigh) => drop(body.splice(short..short, vec![0; spare])),
         Some(ListingMistake::MemoryListed) => body.resize(MEMORY, 0),
         _ => body.resize(body.len() + spare, 0),
     }
-    let word = |bytes: &[u8]| words::get(bytes, 0, 4);
-    match mistake {
-        Some(ListingMistake::BigEndianWords) => {
-            body.chunks_exact(4).map(|bytes| word(bytes).swap_bytes()).collect()
-        }
-        _ => body.chunks_exact(4).map(word).collect(),
-    }
+    let word = |bytes: &[u8]| match mistake {
+        Some(ListingMistake::BigEndianWords) => words::get(bytes, 0, 4).swap_bytes(),
+        _ => words::get(bytes, 0, 4),
+    };
+    body.chunks_exact(4).map(word).collect()
 }
 
 /// "Words at or above data start": by their address.
@@ -95,30 +124,17 @@ pub fn line(address: u32, word: u32, data: bool) -> String {
 
 fn line_with(address: u32, word: u32, data: bool, mistake: Option<ListingMistake>) -> String {
     let code = word as u8;
-    let line = match mnemonic(code, mistake) {
-        Some(name) if !data => match form(code, mistake) {
-            Form::Bare => format!("{address:08x} {word:08x} {name}"),
-            Form::Number => {
-                format!("{address:08x} {word:08x} {name} {}", operand(word, mistake))
-            }
-            Form::Target => {
-                format!("{address:08x} {word:08x} {name} {:08x}", target(address, word, mistake))
-            }
-        },
-        _ => format!("{address:08x} {word:08x} data"),
-    };
+    let mut line = format!("{address:08x} {word:08x} ");
+    match mnemonic(code, mistake) {
+        Some(name) if !data => {
+            line += name;
+            line += &match form(code, mistake) {
+                Form::Bare => String::new(),
+                Form::Number => format!(" {}", operand(word, mistake)),
+                Form::Target => format!(" {:08x}", target(address, word, mistake)),
+            };
+        }
+        _ => line += "data",
+    }
     slips::written(line, mistake)
-}
-
-/// Line `number` of a listing, from 0; `None` where there is no such line.
-pub fn line_at(lines: &[String], number: u64, mistake: Option<ListingMistake>) -> Option<&String> {
-    let number = match mistake {
-        Some(ListingMistake::NumberLowHalf) => number & 0xffff_ffff,
-        Some(ListingMistake::AddressLowHalf) => (number.wrapping_mul(4) & 0xffff_ffff) / 4,
-        Some(ListingMistake::AddressWraps) => number.wrapping_mul(4) / 4,
-        Some(ListingMistake::LastRepeated) => number.min(lines.len() as u64 - 1),
-        Some(ListingMistake::RefusedRepeated) if lines[0].starts_with("refused") => 0,
-        _ => number,
-    };
-    lines.get(usize::try_from(number).ok()?)
 }

@@ -48,7 +48,8 @@ pub fn seen(line: &[u8], mistake: Option<ListingMistake>) -> Vec<u8> {
         AcceptsCarriageReturn => without_end(b"\r"),
         AcceptsZeroByte => without_end(b"\0"),
         AcceptsLeadingSpace => line.strip_prefix(b" ").unwrap_or(line).to_vec(),
-        AcceptsTabs => line.iter().map(|byte| if *byte == b'\t' { b' ' } else { *byte }).collect(),
+        AcceptsTabs => replaced(line, b'\t', b' '),
+        AcceptsNextDigit => replaced(line, b':', b'a'),
         AcceptsLongerLine => line[..line.len().min(31)].to_vec(),
         AcceptsTwoSpaces => {
             let fields = line.split(|byte| *byte == b' ').filter(|field| !field.is_empty());
@@ -95,6 +96,10 @@ fn seen_by_fields(line: &[u8], mistake: ListingMistake) -> Vec<u8> {
         AcceptsLeadingZeros => changed(3, &without_zeros),
         _ => line.to_vec(),
     }
+}
+
+fn replaced(line: &[u8], byte: u8, other: u8) -> Vec<u8> {
+    line.iter().map(|found| if *found == byte { other } else { *found }).collect()
 }
 
 /// Zeros in front, up to eight digits.

@@ -125,10 +125,11 @@ fn is_text(fields: &Fields, mistake: Option<ListingMistake>) -> bool {
 
 fn is_operand(given: &[u8], word: u32, mistake: Option<ListingMistake>) -> bool {
     let Some(found) = decimal(given) else { return false };
-    let right = operand(word, mistake);
+    let right = i64::from(operand(word, mistake));
     match mistake {
         Some(ListingMistake::OperandUncompared) => true,
-        Some(ListingMistake::OperandModulo) => (found - right) % (1 << 24) == 0,
+        Some(ListingMistake::OperandByField) => (found - right) % (1 << 24) == 0,
+        Some(ListingMistake::OperandByWord) => (found - right) % (1 << 32) == 0,
         _ => found == right,
     }
 }
@@ -158,8 +159,8 @@ fn hex(text: &[u8]) -> Option<u32> {
 }
 
 /// A decimal number as the listing writes it: no `+`, no leading zeros, no `-0`.
-/// More than eight digits are no 24-bit number, signed or unsigned.
-fn decimal(text: &[u8]) -> Option<i32> {
+/// One of more than 18 digits is no operand, and might not fit here.
+fn decimal(text: &[u8]) -> Option<i64> {
     let (negative, digits) = match text {
         [b'-', digits @ ..] => (true, digits),
         digits => (false, digits),
@@ -167,11 +168,11 @@ fn decimal(text: &[u8]) -> Option<i32> {
     let canonical = match digits {
         [] => false,
         [b'0'] => !negative,
-        [first, ..] => *first != b'0' && digits.len() <= 8,
+        [first, ..] => *first != b'0' && digits.len() <= 18,
     };
     if !canonical || !digits.iter().all(u8::is_ascii_digit) {
         return None;
     }
-    let magnitude = digits.iter().fold(0, |number, digit| 10 * number + i32::from(digit - b'0'));
+    let magnitude = digits.iter().fold(0, |number, digit| 10 * number + i64::from(digit - b'0'));
     Some(if negative { -magnitude } else { magnitude })
 }

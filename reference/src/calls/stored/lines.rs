@@ -121,6 +121,10 @@ fn near() -> Vec<Named> {
     samples().into_iter().flat_map(misses).map(|(name, line)| read(name, line)).collect()
 }
 
+/// What each byte of a line is changed to: digits, a space, the bytes next to
+/// digits.
+const OTHERS: &[u8] = b"0a /:`g";
+
 /// Every cut of a line, and every byte of it changed, removed and doubled.
 fn edited() -> Vec<Named> {
     let mut list = Vec::new();
@@ -129,10 +133,9 @@ fn edited() -> Vec<Named> {
         for at in 0..line.len() {
             let byte = line[at];
             list.push(read("cut", &line[..at]));
-            for other in [byte ^ 1, byte ^ 0x20, byte | 0x80, b'0', b'a', b' '] {
-                if other != byte {
-                    list.push(read("a byte changed", spliced(&line, at, 1, &[other])));
-                }
+            let near = [byte ^ 1, byte ^ 0x20, byte | 0x80];
+            for other in near.iter().chain(OTHERS).filter(|other| **other != byte) {
+                list.push(read("a byte changed", spliced(&line, at, 1, &[*other])));
             }
             list.push(read("a byte removed", spliced(&line, at, 1, &[])));
             list.push(read("a byte doubled", spliced(&line, at, 0, &[byte])));
