@@ -1,0 +1,131 @@
+//! The random calls: the same again, within bounds, and rich enough.
+
+use reference::calls::answer::answers;
+use reference::calls::format::{encode, read_all};
+use reference::calls::near::{near_misses, Listed};
+use reference::calls::Call;
+use reference::listing::unlist::unlist;
+use reference::load::HEADER;
+use reference::opcodes::sets::{is_legal, name_of, LEGAL};
+use reference::random::calls::{random_call, random_line};
+use reference::random::rng::Rng;
+use reference::words::get;
+use reference::worked::op;
+use std::collections::{BTreeMap, BTreeSet};
+use std::process::Command;
+use std::sync::LazyLock;
+
+const COUNT: u64 = 12_000;
+
+static CALLS: LazyLock<Vec<Call>> =
+    LazyLock::new(|| (0..COUNT).map(|number| random_call(1, number)).collect());
+
+/// What each call gives, of those of one kind.
+fn given(kind: u32) -> impl Iterator<Item = (&'static Call, Vec<Option<String>>)> {
+    let of_kind = move |call: &&Call| call.kind() == kind;
+    CALLS.iter().filter(of_kind).map(|call| (call, answers(call, None)))
+}
+
+#[test]
+fn written_and_read_again() {
+    for call in CALLS.iter().take(2000) {
+        assert_eq!(read_all(&encode(call)).unwrap(), std::slice::from_ref(call));
+    }
+    assert_ne!(random_call(1, 7), random_call(2, 7));
+}
+
+#[test]
+fn the_command_writes_the_same() {
+    let words = ["random-calls", "--seed", "1", "--first", "40", "--count", "30"];
+    let output = Command::new(env!("CARGO_BIN_EXE_reference")).args(words).output().unwrap();
+    let stream: Vec<u8> = CALLS[40..70].iter().flat_map(encode).collect();
+    assert_eq!(output.stdout, stream);
+}
+
+#[test]
+fn listings_show_every_mnemonic_data_and_refusal() {
+    let mut names = BTreeMap::new();
+    let [mut by_place, mut by_opcode, mut none] = [0, 0, 0];
+    for line in given(1).flat_map(|(_, lines)| lines) {
+        let Some(line) = line else {
+            none += 1;
+            continue;
+        };
+        let name = match line.strip_prefix("refused ") {
+            Some(number) => format!("refused {number}"),
+            None => line[18..].split(' ').next().unwrap().to_string(),
+        };
+        if name == "data" {
+            let code = u8::from_str_radix(&line[15..17], 16).unwrap();
+            by_place += usize::from(is_legal(code));
+            by_opcode += usize::from(!is_legal(code));
+        }
+        *names.entry(name).or_insert(0) += 1;
+    }
+    let refused = (7..12).map(|number| format!("refused {number}"));
+    let due = LEGAL.iter().map(|code| name_of(*code).to_string()).chain(refused);
+    let missing: Vec<String> = due.filter(|name| !names.contains_key(name)).collect();
+    assert_eq!(missing, [""; 0]);
+    assert!(by_place > 5000 && by_opcode > 1000 && none > 1000, "{by_place}, {by_opcode}, {none}");
+}
+
+#[test]
+fn ranges_reach_the_ends() {
+    let count = |holds: &dyn Fn(u64, u32, u64) -> bool| {
+        let asked = given(1).filter(|(call, _)| match call {
+            Call::Lines { first, count, file } => {
+                let words = file.len().saturating_sub(HEADER).div_ceil(4) as u64;
+                holds(*first, *count, words)
+            }
+            Call::Read(_) => false,
+        });
+        asked.count()
+    };
+    assert!(count(&|first, count, words| first == 0 && u64::from(count) > words) > 500);
+    assert!(count(&|first, count, _| first.checked_add(u64::from(count)).is_none()) > 20);
+    assert!(count(&|first, count, words| first < words && first + u64::from(count) > words) > 500);
+    assert!(count(&|first, _, words| first > words && first < words + 10) > 50);
+    assert!(count(&|first, _, _| first > 1 << 40) > 200);
+    assert!(count(&|_, count, _| count == 0) > 50);
+    assert!(count(&|first, count, words| words == 8192 && first < words && count > 0) > 10);
+}
+
+#[test]
+fn data_starts_and_lengths_are_on_words_and_off() {
+    let mut seen = BTreeSet::new();
+    for (call, lines) in given(1) {
+        let Call::Lines { file, .. } = call else { continue };
+        if file.len() > HEADER && !lines.iter().flatten().any(|line| line.starts_with("refused")) {
+            let (start, length) = (get(file, 12, 4), (file.len() - HEADER) as u32);
+            seen.insert((start % 4, length % 4, start == length, start < 8));
+        }
+    }
+    // Where they are equal, so are their remainders.
+    assert!(seen.len() >= 4 * 4 * 2 + 4 * 2, "{seen:?}");
+}
+
+#[test]
+fn lines_are_of_every_kind_and_many_pass() {
+    let rng = &mut Rng::new(3);
+    let mut kinds = BTreeMap::new();
+    let (mut passed, mut longest) = (0, 0);
+    for _ in 0..COUNT {
+        let (kind, line) = random_line(rng);
+        let passes = unlist(&line).0 == 0;
+        let counts: &mut [u32; 2] = kinds.entry(kind).or_default();
+        counts[usize::from(passes)] += 1;
+        passed += u64::from(passes);
+        longest = longest.max(line.len());
+    }
+    let samples = [op("LI", 0), op("LI", -1), op("JMP", 1), op("NOP", 0), op("LLD", 1)];
+    let sample = |word: &u32| near_misses(Listed { address: 4, word: *word, data: false });
+    let near = samples.iter().flat_map(sample).map(|(name, _)| name);
+    let other = ["listed as text", "listed as data", "a byte changed", "a bit changed"];
+    let more = ["a byte removed", "a byte added", "two bytes exchanged", "cut"];
+    let last = ["refused", "empty", "random bytes", "random text", "one byte often"];
+    let due: BTreeSet<&str> = near.chain(other).chain(more).chain(last).collect();
+    assert!(kinds.keys().eq(&due), "{:?}", due.difference(&kinds.keys().copied().collect()));
+    assert!(kinds["listed as text"][0] == 0 && kinds["listed as data"][1] > 100);
+    assert!(passed > COUNT / 4 && passed < COUNT / 2, "{passed}");
+    assert!(longest > 500, "{longest}");
+}
