@@ -16,6 +16,7 @@ use std::process::Command;
 use std::sync::LazyLock;
 
 const COUNT: u64 = 12_000;
+const LINES: u64 = 60_000;
 
 static CALLS: LazyLock<Vec<Call>> =
     LazyLock::new(|| (0..COUNT).map(|number| random_call(1, number)).collect());
@@ -109,7 +110,7 @@ fn lines_are_of_every_kind_and_many_pass() {
     let rng = &mut Rng::new(3);
     let mut kinds = BTreeMap::new();
     let (mut passed, mut longest) = (0, 0);
-    for _ in 0..COUNT {
+    for _ in 0..LINES {
         let (kind, line) = random_line(rng);
         let passes = unlist(&line).0 == 0;
         let counts: &mut [u32; 2] = kinds.entry(kind).or_default();
@@ -124,8 +125,13 @@ fn lines_are_of_every_kind_and_many_pass() {
     let more = ["a byte removed", "a byte added", "two bytes exchanged", "cut"];
     let last = ["refused", "empty", "random bytes", "random text", "one byte often"];
     let due: BTreeSet<&str> = near.chain(other).chain(more).chain(last).collect();
-    assert!(kinds.keys().eq(&due), "{:?}", due.difference(&kinds.keys().copied().collect()));
-    assert!(kinds["listed as text"][0] == 0 && kinds["listed as data"][1] > 100);
-    assert!(passed > COUNT / 4 && passed < COUNT / 2, "{passed}");
+    let often = |kind: &&str| kinds.get(kind).is_some_and(|counts| counts[0] + counts[1] >= 5);
+    let rare: Vec<&str> = due.iter().copied().filter(|kind| !often(kind)).collect();
+    assert_eq!(rare, [""; 0]);
+    assert_eq!(kinds.len(), due.len());
+    for kind in ["listed as text", "listed as data"] {
+        assert!(kinds[kind][0] == 0 && kinds[kind][1] > 100, "{kind}");
+    }
+    assert!(passed > LINES / 4 && passed < LINES / 2, "{passed}");
     assert!(longest > 500, "{longest}");
 }

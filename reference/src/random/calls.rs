@@ -6,7 +6,7 @@ use crate::calls::near::{near_misses, Listed};
 use crate::calls::{Call, MAX_CALL, MAX_LINES};
 use crate::line::MEMORY;
 use crate::load::{executable, HEADER};
-use crate::opcodes::sets::LEGAL;
+use crate::opcodes::sets::{ILLEGAL, LEGAL};
 use crate::words::instruction;
 
 /// Bytes of a call of lines before its file.
@@ -48,8 +48,8 @@ fn range(rng: &mut Rng, lines: u64) -> (u64, u32) {
     }
 }
 
-/// A body of words with all opcodes, up to a few, to M, or a little beyond it;
-/// data start anywhere, mostly one that passes.
+/// A body of words with all opcodes: a few bytes, some hundreds, or about M;
+/// data start and entry mostly such that they pass.
 fn listed_file(rng: &mut Rng) -> Vec<u8> {
     let length = match rng.weighted(&[20, 40, 1]) {
         0 => rng.below(20),
@@ -68,20 +68,22 @@ fn listed_file(rng: &mut Rng) -> Vec<u8> {
 
 /// A word, mostly of a legal opcode with an operand at an edge.
 fn random_word(rng: &mut Rng, address: u32) -> u32 {
-    let code = match rng.weighted(&[12, 3, 1]) {
+    let code = match rng.weighted(&[12, 3, 2]) {
         0 => rng.pick(&LEGAL),
         1 => rng.pick(&[0x03, 0x05, 0x84, 0x86, 0x88, 0x8a, 0x8c, 0x8d, 0x8f, 0x90]),
-        _ => rng.word() as u8,
+        _ => rng.pick(&ILLEGAL),
     };
     let near = rng.between(-20, 20) as u32;
-    let imm = match rng.weighted(&[3, 3, 3, 2, 2, 2, 3]) {
-        0 => near,
-        1 => rng.pick(&[0, 1, u32::MAX, 0x7f_ffff, 0x80_0000]),
-        2 => 10u32.pow(rng.below(8)).wrapping_add(near),
-        3 => (10u32.pow(rng.below(8)).wrapping_neg()).wrapping_add(near),
+    let power = 10u32.pow(rng.below(8));
+    let imm = match rng.weighted(&[5, 3, 3, 3, 2, 2, 2, 3]) {
+        0 => 0,
+        1 => near,
+        2 => rng.pick(&[1, u32::MAX, 0x7f_ffff, 0x80_0000]),
+        3 => power.wrapping_add(near),
+        4 => power.wrapping_neg().wrapping_add(near),
         // A target near 0, which may wrap, or near M.
-        4 => near.wrapping_sub(address),
-        5 => near.wrapping_sub(address).wrapping_add(MEMORY as u32),
+        5 => near.wrapping_sub(address),
+        6 => near.wrapping_sub(address).wrapping_add(MEMORY as u32),
         _ => rng.word(),
     };
     instruction(code, imm)
@@ -91,7 +93,7 @@ fn random_listed(rng: &mut Rng) -> Listed {
     let anywhere = 4 * rng.below(MEMORY as u32 / 4);
     let address = rng.pick(&[0, 0, 4, 8, 0xc, 0x14, 0x7ff8, 0x7ffc, anywhere, anywhere, anywhere]);
     let word = random_word(rng, address);
-    Listed { address, word, data: rng.percent(20) }
+    Listed { address, word, data: address > 0 && rng.percent(20) }
 }
 
 /// A line and what kind it is: listed, nearly listed, or something else.
