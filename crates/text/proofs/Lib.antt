@@ -1,3 +1,4 @@
 mod Copy
+pub mod HexLaws
 pub mod Laws
 mod Value

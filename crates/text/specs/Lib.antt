@@ -1,2 +1,5 @@
+pub mod Ascii
 pub mod Digits
+pub mod Hex
+pub mod Signed
 pub mod Written

@@ -1,9 +1,12 @@
-// Document 01, "Worked lines": bytes and numbers written into a lent line.
+// Document 01, "Worked lines", and document 02, item 2: bytes and numbers written into a lent line.
 ghost use Prim.Native.Nat.{_+_, _<_, _≤_};
 ghost use mathlib.Core.List.{[], _∷_};
 ghost use lib.ListN.{length};
 ghost use Rattle.text.specs.Digits.{decimalOf, digitOf};
+ghost use Rattle.text.specs.Signed.{signedOf};
 ghost use Rattle.text.specs.Written.{Written};
+
+pub mod hex;
 
 // Bytes, as those of a constant byte string. The result is the index after the last.
 pub fn put(line: &mut [u8], at: usize, bytes: &[u8]) -> usize
@@ -37,4 +40,16 @@ pub fn decimal(line: &mut [u8], at: usize, n: u64) -> usize
     }
     let end = decimal(line, at, n / 10);
     digit(line, end, n % 10)
+}
+
+// A word as a signed number in decimal.
+pub fn signed(line: &mut [u8], at: usize, n: u32) -> usize
+    requires { ⌜ at + 21 ≤ length (now line) ⌝ }
+    ensures { λ r. ⌜ Written (signedOf n) (now (line .entry)) at (now (line .exit)) r ⌝ }
+{
+    if n < 0x8000_0000 {
+        return decimal(line, at, n as u64);
+    }
+    let end = put(line, at, b"-");
+    decimal(line, end, 0x1_0000_0000 - n as u64)
 }
