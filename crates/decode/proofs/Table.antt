@@ -57,7 +57,7 @@ and-right true b e = e
 and-right false b e = absurd (false≢true e)
 
 -- two truth values that compare equal
-same : (a b : Bool) → Bool·beq a b ≡ true → a ≡ b
+pub same : (a b : Bool) → Bool·beq a b ≡ true → a ≡ b
 same true true e = refl
 same true false e = sym e
 same false true e = e
@@ -71,7 +71,7 @@ every-from f i (suc n) e (suc k) h =
     rw (add-suc i k, ← suc-add i k) (every-from f (suc i) n (and-right (f i) (every f (suc i) n) e) k (le-of-suc-le-suc h))
 
 -- a test that passes at each number below n passes at k
-every-below : (f : ℕ → Bool) (n : ℕ) → every f 0 n ≡ true → (k : ℕ) → k < n → f k ≡ true
+pub every-below : (f : ℕ → Bool) (n : ℕ) → every f 0 n ≡ true → (k : ℕ) → k < n → f k ≡ true
 every-below f n e k h = subst (λ (m : ℕ). f m ≡ true) (zero-add k) (every-from f 0 n e k h)
 
 -- an opcode byte is illegal exactly if it is written out as illegal
