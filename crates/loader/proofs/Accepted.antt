@@ -7,7 +7,7 @@ use lib.ListN.{length}
 use Rattle.executable.specs.declared.LoadAnswer.{LoadAnswer}
 use Rattle.executable.specs.declared.LoadAnswer.the-variants.{Accepted, BadSize, ShortFile, BadMagic, BadBody, BadDataStart, BadEntry}
 use Rattle.executable.specs.Executable.{loadNumber, entryOf, bodyOf, loadAnswer}
-use Rattle.executable.proofs.Accepted.{fit}
+use Rattle.executable.proofs.Accepted.{accepting, fit}
 use Rattle.rules.specs.declared.Cpu.{Cpu}
 use Rattle.rules.specs.declared.Machine.{Machine}
 use Rattle.rules.specs.Load.{Loaded, cpuWith, zeroCpu, emptyMachine, image, loadBy, load}
@@ -17,16 +17,6 @@ use Rattle.loader.specs.Loader.{Loadable, loadedWith, LoadsAs}
 -- an accepted file can be loaded
 loadable : (size : ℕ) (file : List ℕ) → loadAnswer size file ≡ Accepted → Loadable size file
 loadable size file e = let f = fit size file e in record { header = f .header; body = omega arith; small = omega arith }
-
--- the answer of number 0 is the accepting one
-accepting : (a : LoadAnswer) → loadNumber a ≡ 0 → a ≡ Accepted
-accepting Accepted e = refl
-accepting BadSize e = absurd (omega arith)
-accepting ShortFile e = absurd (omega arith)
-accepting BadMagic e = absurd (omega arith)
-accepting BadBody e = absurd (omega arith)
-accepting BadDataStart e = absurd (omega arith)
-accepting BadEntry e = absurd (omega arith)
 
 -- what is loaded by any other answer
 refused-by : (a : LoadAnswer) (file m : List ℕ) → (loadNumber a ≡ 0 → ⊥) → loadedWith (record { answer = a; machine = emptyMachine zeroCpu }) m ≡ loadBy a file m
