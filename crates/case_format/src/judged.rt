@@ -22,7 +22,7 @@ pub enum Judged {
 }
 
 // Good or malformed.
-fn formed(holds: bool) -> Judged {
+pub fn formed(holds: bool) -> Judged {
     if holds {
         return Judged::Good;
     }

@@ -1,10 +1,10 @@
-// reference/FORMAT.md, "Cases" and "The last line": a case from standard input, and the line after the last.
+// reference/FORMAT.md, "Cases" and "The last line": a case from standard input, and the line after the last. Calls (reference/CALLS.md) stand in a stream of the same form.
 use crate::given::place;
 use crate::judged::Judged;
 use crate::judged::judge;
 
-// The next case, with its length in front.
-pub fn read_case(buf: &mut [u8]) -> Judged {
+// The next case or call, with its length in front: good where all its bytes are there.
+pub fn read_item(buf: &mut [u8]) -> Judged {
     if buf.len() < 4 {
         return Judged::Bounds;
     }
@@ -28,7 +28,16 @@ pub fn read_case(buf: &mut [u8]) -> Judged {
     if io::read_full(0, &mut buf[4..n]) < n - 4 {
         return Judged::Cut;
     }
-    judge_first(buf, n)
+    Judged::Good
+}
+
+// The next case.
+pub fn read_case(buf: &mut [u8]) -> Judged {
+    let read = read_item(buf);
+    let Judged::Good = read else {
+        return read;
+    };
+    judge_first(buf, place(buf, 0))
 }
 
 // The first n bytes as a case.

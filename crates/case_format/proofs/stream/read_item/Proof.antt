@@ -3,16 +3,16 @@ use lib.Seq.{length-take-le}
 use native.Mathlib.Omega.{arith}
 use mathlib.Core.Path.{sym}
 use borrow.Author.Needs.{needs}
-use Rattle.case_format.proofs.stream.read_case.Statement.{statement}
-use Rattle.case_format.proofs.stream.read_case.Tie as tie
+use Rattle.case_format.proofs.stream.read_item.Statement.{statement}
+use Rattle.case_format.proofs.stream.read_item.Tie as tie
 
 slice-aggregate-read-full : tie.Need-slice-aggregate-read-full
 slice-aggregate-read-full c =
     let given = c .before .before .before .args in
     sym (length-take-le 4 (given .buf .now) (omega arith))
 
-pub read-case-spec : {M : Type 1} → statement M
-read-case-spec =
+pub read-item-spec : {M : Type 1} → statement M
+read-item-spec =
     tie.close
     (tie.spec
     (λ c. search needs) (λ c. search needs)
@@ -20,4 +20,4 @@ read-case-spec =
     (λ c κs. search needs) (λ c. search needs) (λ c. search needs) (λ c. search needs) (λ c. search needs)
     (λ c κs. search needs) (λ c. search needs) (λ c. search needs) (λ c. search needs) (λ c. search needs)
     (λ c. search needs) (λ c. search needs) (λ c. search needs) (λ c. search needs) (λ c κs. search needs)
-    (λ c. search needs) (λ c. search needs) (λ c κs. search needs) (λ c. search needs) (λ c. search needs))
+    (λ c. search needs) (λ c. search needs) (λ c. search needs) (λ c. search needs))
