@@ -1,0 +1,7 @@
+// reference/CALLS.md: reads calls that are no runs on standard input, makes them by the library's entries, and prints what comes of them.
+mod listings;
+mod stream;
+
+fn main() {
+    stream::answer();
+}

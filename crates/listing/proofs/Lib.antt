@@ -1,0 +1,7 @@
+mod Equal
+pub mod Exactly
+mod Lines
+pub mod Reading
+mod Tests
+mod Witness
+mod Words

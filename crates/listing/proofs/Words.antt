@@ -1,0 +1,42 @@
+-- Document 02, item 2: the words of an accepted file, "a short last word padded with zeros".
+use Prim.Native.Nat.{ℕ, zero, suc, _+_, _-_, _*_, _/_, _<_}
+use mathlib.Core.List.{List}
+use mathlib.Core.Path.{_≡_, refl, sym, _∙_, ap}
+use native.Mathlib.Nat.{add-suc}
+use native.Mathlib.Omega.{arith}
+use lib.ListN.{length, getD}
+use lib.Seq.{getD-drop}
+use Rattle.memory.specs.Memory.{loadN}
+use Rattle.executable.specs.Executable.{loadNumber, loadAnswer, bodyOf}
+use Rattle.executable.specs.declared.LoadAnswer.{LoadAnswer}
+use Rattle.executable.proofs.Accepted.{Fit, fit, accepting}
+use Rattle.listing.specs.Listing.{memorySize, answerOf}
+use Rattle.listing.specs.Stands.{HasWord}
+
+-- a word of four bytes
+pub four-bytes : (l : List ℕ) (at : ℕ) {p q r s : ℕ} → p ≡ getD l at 0 → q ≡ getD l (at + 1) 0 → r ≡ getD l (at + 2) 0 → s ≡ getD l (at + 3) 0
+    → p + 256 * q + 65536 * r + 16777216 * s ≡ loadN 4 l at
+unfolding loadN
+four-bytes l at e f g h =
+    let one : at + 1 ≡ suc at = omega arith in
+    let two : at + 2 ≡ suc (suc at) = omega arith in
+    let three : at + 3 ≡ suc (suc (suc at)) = omega arith in
+    rw (e, f, g, h, one, two, three) (omega arith)
+
+-- a word of the body is one of the file
+pub load-body : (k : ℕ) (file : List ℕ) (at : ℕ) → loadN k file (16 + at) ≡ loadN k (bodyOf file) at
+unfolding loadN
+load-body zero file at = refl
+load-body (suc k) file at = rw (getD-drop 16 file at 0, ← load-body k file (suc at), add-suc 16 at)
+
+-- ---- what is known of an accepted file
+
+module _ (file : List ℕ) {a : LoadAnswer} {n : ℕ} (p : a ≡ loadAnswer memorySize file) (q : n ≡ loadNumber a) where
+  pub number-of : n ≡ answerOf file
+  number-of = q ∙ ap loadNumber p
+
+  pub fits : n ≡ 0 → Fit memorySize file
+  fits z = fit memorySize file (sym p ∙ accepting a (sym q ∙ z))
+
+  pub has-word : (i : ℕ) → n ≡ 0 → i < (length file - 16 + 3) / 4 → HasWord file i
+  has-word i z h = let f = fits z in record { header = f .header; body = f .body; word = omega arith }

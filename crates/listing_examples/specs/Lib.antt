@@ -1,0 +1,4 @@
+pub mod Line
+pub mod Files
+pub mod Words
+pub mod Back

@@ -1,0 +1,4 @@
+mod Cells
+pub mod Columns
+mod Lines
+pub mod Table
