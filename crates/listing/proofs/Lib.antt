@@ -4,4 +4,4 @@ mod Lines
 pub mod Reading
 mod Tests
 mod Witness
-mod Words
+pub mod Words

@@ -115,7 +115,7 @@ fn same(x: &[u8], y: &[u8]) -> bool
 fn is_line_of(line: &[u8], address: u32, word: u32) -> bool
     ensures { λ r. ⌜ r ≡ isLineOf (now (line .entry)) address word ⌝ }
 {
-    if (address % 4 != 0) | (32768 <= address) {
+    if (address % 4 != 0) | (MEMORY <= address as usize) {
         return false;
     }
     let mut shown = [0u8; 64];

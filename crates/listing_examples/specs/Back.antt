@@ -42,9 +42,9 @@ lines =
     [] answers 12 ∷
     []
 
-pub right : Lines lines
+pub back-shown : Lines lines
 unfolding extend ascii digits hexDigits hexValue signedOf mnemonics formOf operandOf lineBy equal isLineOf _answers_
-right =
+back-shown =
     tt and  -- P1's second line
     tt and  -- the last address, a wrapped target
     tt and  -- data at 0, a legal opcode

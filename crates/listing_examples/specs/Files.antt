@@ -46,9 +46,9 @@ lines =
     lineOf [] 0 shows "refused 7" ∷
     []
 
-pub shown : Lines lines
+pub files-shown : Lines lines
 unfolding extend loadN sizeOk answerBy loadAnswer ascii digits hexDigits signedOf mnemonics formOf operandOf lineBy wordLine wordLines refusedLine listingOf lineOf equal _shows_
-shown =
+files-shown =
     tt and  -- P1
     tt and
     tt and

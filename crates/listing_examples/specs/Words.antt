@@ -41,9 +41,9 @@ lines =
     dataLine 0x10 0x00000000 shows "00000010 00000000 data" ∷
     []
 
-pub shown : Lines lines
+pub words-shown : Lines lines
 unfolding extend ascii digits hexDigits signedOf mnemonics formOf operandOf lineBy equal _shows_
-shown =
+words-shown =
     tt and  -- P5's JSR
     tt and  -- a wrapped target
     tt and  -- low bits

@@ -11,7 +11,6 @@ use lib.ListN.{length, getD, length-append}
 use lib.Seq.{append-snoc, getD-append-seam}
 use Rattle.word.specs.Word.{if_then_else_}
 use Rattle.word.proofs.BoolLaws.{both}
-use Rattle.text.specs.Digits.{digitOf}
 use Rattle.text.specs.Hex.{hexDigit, hexDigits, hexNumber, hexValue}
 use Rattle.text.specs.Written.{Written}
 use Rattle.text.proofs.Laws.{written-then, written-as}
@@ -56,13 +55,13 @@ hex-value-below (suc k) l at = rw pow-succ' (omega (arith, hex-value-below k l a
 
 -- ---- digits written read back
 
-digit-back : (b : Bool) (d : ℕ) → ltb d 10 ≡ b → d < 16 → hexNumber (if b then digitOf d else 87 + d) ≡ d
+digit-back : (b : Bool) (d : ℕ) → ltb d 10 ≡ b → d < 16 → hexNumber (hexDigit d) ≡ d
 digit-back true d e h =
     let l = ltb-true d 10 e in
-    rw (le-leb 48 (48 + d) (omega arith), lt-ltb (48 + d) 58 (omega arith)) (omega arith)
+    rw (e, le-leb 48 (48 + d) (omega arith), lt-ltb (48 + d) 58 (omega arith)) (omega arith)
 digit-back false d e h =
     let l = ltb-false d 10 e in
-    rw (le-leb 48 (87 + d) (omega arith), le-ltb (87 + d) 58 (omega arith), le-leb 97 (87 + d) (omega arith), lt-ltb (87 + d) 103 (omega arith)) (omega arith)
+    rw (e, le-leb 48 (87 + d) (omega arith), le-ltb (87 + d) 58 (omega arith), le-leb 97 (87 + d) (omega arith), lt-ltb (87 + d) 103 (omega arith)) (omega arith)
 
 -- in a line, after x and before y
 pub hex-back : (x y : List ℕ) (k n : ℕ) → n < 16 ^ k → hexValue k (x ++ hexDigits k n ++ y) (length x) ≡ n
@@ -81,7 +80,7 @@ hex-back x y (suc k) n h =
 
 -- ---- a digit's byte, and its number, by the code's tests
 
-pub digit-decimal : (d : ℕ) → d < 10 → digitOf d ≡ hexDigit d
+pub digit-decimal : (d : ℕ) → d < 10 → 48 + d ≡ hexDigit d
 digit-decimal d h = rw (lt-ltb d 10 h)
 
 pub digit-letter : (d : ℕ) → 10 ≤ d → 87 + d ≡ hexDigit d

@@ -5,11 +5,10 @@ use mathlib.Core.List.{List, [], _∷_, _++_}
 use lib.Dec.{ltb, leb}
 use lib.ListN.{getD}
 use Rattle.word.specs.Word.{if_then_else_}
-use Rattle.text.specs.Digits.{digitOf}
 
--- the byte of a digit; that of 10 is `a`, 97
+-- the byte of a digit; that of 0 is 48, that of 10 is `a`, 97
 abbrev pub hexDigit : ℕ → ℕ
-hexDigit d = if ltb d 10 then digitOf d else 87 + d
+hexDigit d = if ltb d 10 then 48 + d else 87 + d
 
 -- the low k digits of a number, most significant first
 unfoldable pub hexDigits : ℕ → ℕ → List ℕ
