@@ -64,8 +64,8 @@ fn padded_word(s: &[u8], at: usize) -> u32
 }
 
 // The line of the n-th word of an accepted file.
-fn word_line(file: &[u8], n: usize, line: &mut [u8]) -> usize
-    requires { ⌜ HasWord (now file) n × (44 ≤ length (now line)) ⌝ }
+fn word_line(file: &[u8], n: usize, line: &mut [u8; 64]) -> usize
+    requires { ⌜ HasWord (now file) n ⌝ }
     ensures { λ r. ⌜ Shown (wordLine (now (file .entry)) n) (now (line .exit)) r ⌝ }
 {
     let address = (4 * n) as u32;

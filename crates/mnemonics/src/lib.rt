@@ -120,8 +120,7 @@ fn put_fields(line: &mut [u8], address: u32, word: u32) -> usize
 }
 
 // The line of a word of the text.
-pub fn text_line(line: &mut [u8], address: u32, word: u32) -> usize
-    requires { ⌜ 44 ≤ length (now line) ⌝ }
+pub fn text_line(line: &mut [u8; 64], address: u32, word: u32) -> usize
     ensures { λ r. ⌜ Written (textLine address word) (now (line .entry)) 0 (now (line .exit)) r ⌝ }
 {
     let op = (word % 256) as u8;
@@ -138,8 +137,7 @@ pub fn text_line(line: &mut [u8], address: u32, word: u32) -> usize
 }
 
 // The line of a word of the data.
-pub fn data_line(line: &mut [u8], address: u32, word: u32) -> usize
-    requires { ⌜ 22 ≤ length (now line) ⌝ }
+pub fn data_line(line: &mut [u8; 64], address: u32, word: u32) -> usize
     ensures { λ r. ⌜ Written (dataLine address word) (now (line .entry)) 0 (now (line .exit)) r ⌝ }
 {
     let end = put_fields(line, address, word);

@@ -10,28 +10,24 @@ use Rattle.listing.proofs.word_line.Tie as tie
 
 returns : tie.Need-returns
 returns c =
-    let padded-word = c .before .before .before .before .before .before .padded-word in
-    let given = c .before .before .before .before .before .before .before .before .before .args in
-    let load4 = c .before .before .before .before .before .load4 in
-    let if1 = c .before .before .before .before .if1 in
-    let data-line = c .before .before .data-line in
-    shown-data _ _ refl (padded-word .ensures ∙ load-body 4 (now (given .file)) (4 * given .n)) (search needs) (load4 .ensures) (if1 .taken) (data-line .ensures)
+    let given = c .before .before .before .before .before .before .args in
+    let word = c .before .before .before .before .padded-word .ensures ∙ load-body 4 (now (given .file)) (4 * given .n) in
+    let start = c .before .before .before .load4 .ensures in
+    shown-data _ _ refl word (search needs) start (c .before .before .if1 .taken) (c .data-line .ensures)
 
 returns-2 : tie.Need-returns-2
 returns-2 c =
-    let padded-word = c .before .before .before .before .before .before .padded-word in
-    let given = c .before .before .before .before .before .before .before .before .before .args in
-    let load4 = c .before .before .before .before .before .load4 in
-    let if1 = c .before .before .before .before .if1 in
-    let text-line = c .before .before .text-line in
-    shown-text _ _ refl (padded-word .ensures ∙ load-body 4 (now (given .file)) (4 * given .n)) (search needs) (load4 .ensures) (if1 .left) (text-line .ensures)
+    let given = c .before .before .before .before .before .before .args in
+    let word = c .before .before .before .before .padded-word .ensures ∙ load-body 4 (now (given .file)) (4 * given .n) in
+    let start = c .before .before .before .load4 .ensures in
+    shown-text _ _ refl word (search needs) start (c .before .before .if1 .left) (c .text-line .ensures)
 
 pub word-line-spec : {M : Type 1} → statement M
 word-line-spec =
     tie.close
     (tie.spec
     (λ c. search needs) (λ c. search needs) (λ c. search needs) (λ c. search needs) (λ c κs. search needs)
-    (λ c κs. search needs) (λ c κs. search needs) (λ c. search needs)
+    (λ c κs. search needs) (λ c κs. search needs)
     returns
-    (λ c κs. search needs) (λ c. search needs)
+    (λ c κs. search needs)
     returns-2)

@@ -7,22 +7,12 @@ use Rattle.mnemonics.proofs.data_line.Tie as tie
 
 put-requires : tie.Need-put-requires
 put-requires c κs =
-    let given = c .before .before .before .before .before .before .before .args in
-    let put-fields = c .before .before .before .before .put-fields in
-    let room = c .before .before .before .before .before .before .before .pre in
-    omega (arith, fields-end (given .address) (given .word) (put-fields .ensures), put-fields .kept .0, room)
+    let given = c .before .before .before .before .args in
+    let put-fields = c .before .before .put-fields in
+    omega (arith, fields-end (given .address) (given .word) (put-fields .ensures), put-fields .kept .0)
 
 returns : tie.Need-returns
-returns c =
-    let put-fields = c .before .before .before .before .before .before .before .put-fields in
-    let put = c .before .before .put in
-    data-written _ _ (put-fields .ensures) (put .ensures)
+returns c = data-written _ _ (c .before .before .before .put-fields .ensures) (c .put .ensures)
 
 pub data-line-spec : {M : Type 1} → statement M
-data-line-spec =
-    tie.close
-    (tie.spec
-    (λ c κs. search needs) (λ c. search needs)
-    put-requires
-    (λ c. search needs)
-    returns)
+data-line-spec = tie.close (tie.spec (λ c κs. search needs) (λ c. search needs) put-requires returns)

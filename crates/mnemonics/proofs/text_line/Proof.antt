@@ -9,38 +9,34 @@ use Rattle.mnemonics.proofs.text_line.Tie as tie
 
 put-requires : tie.Need-put-requires
 put-requires c κs =
-    let given = c .before .before .before .before .before .before .before .args in
-    let put-fields = c .before .before .before .before .put-fields in
-    let room = c .before .before .before .before .before .before .before .pre in
-    omega (arith, fields-end (given .address) (given .word) (put-fields .ensures), put-fields .kept .0, room)
+    let given = c .before .before .before .before .args in
+    let put-fields = c .before .before .put-fields in
+    omega (arith, fields-end (given .address) (given .word) (put-fields .ensures), put-fields .kept .0)
 
 put-name-requires : tie.Need-put-name-requires
 put-name-requires c κs =
-    let given = c .before .before .before .before .before .before .before .before .before .before .before .args in
-    let put-fields = c .before .before .before .before .before .before .before .before .put-fields in
-    let put = c .before .before .before .put in
-    let room = c .before .before .before .before .before .before .before .before .before .before .before .pre in
-    omega (arith, fields-end (given .address) (given .word) (put-fields .ensures), put-fields .kept .0, put .kept .0, put .ensures .end, room)
+    let given = c .before .before .before .before .before .before .args in
+    let put-fields = c .before .before .before .before .put-fields in
+    let put = c .before .put in
+    omega (arith, fields-end (given .address) (given .word) (put-fields .ensures), put-fields .kept .0, put .kept .0, put .ensures .end)
 
 put-operand-requires : tie.Need-put-operand-requires
 put-operand-requires c κs =
-    let given = c .before .before .before .before .before .before .before .before .before .before .before .before .before .before .before .before .before .args in
-    let put-fields = c .before .before .before .before .before .before .before .before .before .before .before .before .before .before .put-fields in
-    let put = c .before .before .before .before .before .before .before .before .before .put in
-    let put-name = c .before .before .before .before .before .put-name in
-    let room = c .before .before .before .before .before .before .before .before .before .before .before .before .before .before .before .before .before .pre in
+    let given = c .before .before .before .before .before .before .before .before .before .before .args in
+    let put-fields = c .before .before .before .before .before .before .before .before .put-fields in
+    let put = c .before .before .before .before .before .put in
+    let put-name = c .before .before .before .put-name in
     let fields = fields-end (given .address) (given .word) (put-fields .ensures) in
-    let name = name-short (given .word % 256) in
-    omega (arith, fields, put-fields .kept .0, put .kept .0, put .ensures .end, put-name .kept .0, put-name .ensures .end, name, room)
+    omega (arith, fields, put-fields .kept .0, put .kept .0, put .ensures .end, put-name .kept .0, put-name .ensures .end, name-short (given .word % 256))
 
 returns : tie.Need-returns
 returns c =
-    let put-fields = c .before .before .before .before .before .before .before .before .before .before .before .before .before .before .before .before .before .put-fields in
-    let put = c .before .before .before .before .before .before .before .before .before .before .before .before .put in
-    let put-name = c .before .before .before .before .before .before .before .before .put-name in
-    let operand-form = c .before .before .before .before .operand-form in
-    let immediate = c .before .before .before .immediate in
-    let put-operand = c .before .before .put-operand in
+    let put-fields = c .before .before .before .before .before .before .before .before .before .put-fields in
+    let put = c .before .before .before .before .before .before .put in
+    let put-name = c .before .before .before .before .put-name in
+    let operand-form = c .before .before .operand-form in
+    let immediate = c .before .immediate in
+    let put-operand = c .put-operand in
     text-written _ _ (put-fields .ensures) (put .ensures) (put-name .ensures) (operand-form .ensures) (immediate .ensures) (put-operand .ensures)
 
 pub text-line-spec : {M : Type 1} → statement M
@@ -52,5 +48,4 @@ text-line-spec =
     put-name-requires
     (λ c κs. search needs) (λ c κs. search needs)
     put-operand-requires
-    (λ c. search needs)
     returns)
