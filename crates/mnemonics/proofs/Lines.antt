@@ -38,22 +38,24 @@ module _ {form : OperandForm} (a i : ℕ) where
   unfolding operandOf
   number-operand e w = rw e w
 
-  pub target-operand : {l l′ : List ℕ} {at r x y : ℕ} → form ≡ Target → x ≡ sum a 4 → y ≡ sum x i → Written (spaced (hexOf y)) l at l′ r → Written (operandOf form a i) l at l′ r
+  pub target-operand : {l l′ : List ℕ} {at r x y : ℕ} → form ≡ Target → x ≡ sum a 4 → y ≡ sum x i → Written (spaced (hexOf y)) l at l′ r
+      → Written (operandOf form a i) l at l′ r
   unfolding operandOf
   target-operand e f g w = rw (e, ← f, ← g) w
 
 -- ---- the lines
 
-pub text-written : (a w : ℕ) {l l₁ l₂ l₃ l₄ : List ℕ} {r₁ r₂ r₃ r₄ i : ℕ} {form : OperandForm} → Written (fieldsOf a w) l 0 l₁ r₁ → Written (32 ∷ []) l₁ r₁ l₂ r₂
-    → Written (formOf (w % 256) .name) l₂ r₂ l₃ r₃ → form ≡ formOf (w % 256) .operand → i ≡ immOf w → Written (operandOf form a i) l₃ r₃ l₄ r₄
-    → Written (textLine a w) l 0 l₄ r₄
+pub text-written : (a w : ℕ) {l l₁ l₂ l₃ l₄ : List ℕ} {r₁ r₂ r₃ r₄ i : ℕ} {form : OperandForm}
+    → Written (fieldsOf a w) l 0 l₁ r₁ → Written (32 ∷ []) l₁ r₁ l₂ r₂ → Written (formOf (w % 256) .name) l₂ r₂ l₃ r₃
+    → form ≡ formOf (w % 256) .operand → i ≡ immOf w → Written (operandOf form a i) l₃ r₃ l₄ r₄ → Written (textLine a w) l 0 l₄ r₄
 unfolding lineBy
 text-written a w {i = i} {form = form} f s n p q o =
     let name = formOf (w % 256) .name in
     let named = written-as (append-snoc (fieldsOf a w) 32 name) (written-then (written-then f s) n) in
-    written-as (ap (λ (t : List ℕ). fieldsOf a w ++ spaced name ++ t) (ap (λ (e : OperandForm). operandOf e a i) p ∙ ap (operandOf (formOf (w % 256) .operand) a) q))
-    (written-then named o)
+    let operand = ap (λ (e : OperandForm). operandOf e a i) p ∙ ap (operandOf (formOf (w % 256) .operand) a) q in
+    written-as (ap (λ (t : List ℕ). fieldsOf a w ++ spaced name ++ t) operand) (written-then named o)
 
-pub data-written : (a w : ℕ) {l l₁ l₂ : List ℕ} {r₁ r₂ : ℕ} → Written (fieldsOf a w) l 0 l₁ r₁ → Written (32 ∷ 100 ∷ 97 ∷ 116 ∷ 97 ∷ []) l₁ r₁ l₂ r₂ → Written (dataLine a w) l 0 l₂ r₂
+pub data-written : (a w : ℕ) {l l₁ l₂ : List ℕ} {r₁ r₂ : ℕ} → Written (fieldsOf a w) l 0 l₁ r₁ → Written (32 ∷ 100 ∷ 97 ∷ 116 ∷ 97 ∷ []) l₁ r₁ l₂ r₂
+    → Written (dataLine a w) l 0 l₂ r₂
 unfolding lineBy operandOf ascii
 data-written a w f d = written-as (sym (append-nil (fieldsOf a w ++ spaced (ascii "data")))) (written-then f d)

@@ -53,6 +53,14 @@ unfolding hexValue
 hex-value-below zero l at = omega arith
 hex-value-below (suc k) l at = rw pow-succ' (omega (arith, hex-value-below k l at, hex-number-below (getD l (at + k) 0)))
 
+-- ---- the value of a line's part, by the code's values of its two halves
+
+pub half-below : (k : ℕ) (l : List ℕ) (at : ℕ) {p : ℕ} → p ≡ hexValue k l at → p < 16 ^ k
+half-below k l at e = rw e (hex-value-below k l at)
+
+pub halves : (k : ℕ) (l : List ℕ) (at : ℕ) {p q : ℕ} → p ≡ hexValue k l at → q ≡ hexValue k l (at + k) → 16 ^ k * p + q ≡ hexValue (k + k) l at
+halves k l at e f = rw (e, f) (sym (hex-value-split k k l at))
+
 -- ---- digits written read back
 
 digit-back : (b : Bool) (d : ℕ) → ltb d 10 ≡ b → d < 16 → hexNumber (hexDigit d) ≡ d

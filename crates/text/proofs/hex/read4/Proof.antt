@@ -1,31 +1,18 @@
--- The value of four bytes is that of two and two (`hex-value-split`), each below 256.
-use Prim.Native.Nat.{_+_}
+-- The value of four bytes is that of two and two (`halves`), each below 256.
 use native.Mathlib.Omega.{arith}
-use denote.Ref.{now}
 use borrow.Author.Needs.{needs}
-use Rattle.text.proofs.HexLaws.{hex-value-split, hex-value-below}
+use Rattle.text.proofs.HexLaws.{half-below, halves}
 use Rattle.text.proofs.hex.read4.Statement.{statement}
 use Rattle.text.proofs.hex.read4.Tie as tie
 
 mul-result : tie.Need-mul-result
-mul-result c =
-    let read2 = c .read2 in
-    let given = c .before .before .args in
-    record { fits = omega (arith, read2 .ensures, hex-value-below 2 (now (given .line)) (given .at)) }
+mul-result c = record { fits = omega (arith, half-below 2 _ _ (c .read2 .ensures)) }
 
 add-result : tie.Need-add-result
-add-result c =
-    let read2 = c .before .read2 in
-    let read22 = c .read22 in
-    let given = c .before .before .before .args in
-    record { fits = omega (arith, read2 .ensures, read22 .ensures, hex-value-below 2 (now (given .line)) (given .at), hex-value-below 2 (now (given .line)) (given .at + 2)) }
+add-result c = record { fits = omega (arith, half-below 2 _ _ (c .before .read2 .ensures), half-below 2 _ _ (c .read22 .ensures)) }
 
 returns : tie.Need-returns
-returns c =
-    let read2 = c .before .read2 in
-    let read22 = c .read22 in
-    let given = c .before .before .before .args in
-    omega (arith, read2 .ensures, read22 .ensures, hex-value-split 2 2 (now (given .line)) (given .at))
+returns c = halves 2 _ _ (c .before .read2 .ensures) (c .read22 .ensures)
 
 pub read4-spec : {M : Type 1} → statement M
 read4-spec =
