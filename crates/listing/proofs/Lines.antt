@@ -65,31 +65,31 @@ module _ (file : List ℕ) (n : ℕ) where
 
 -- ---- what is written is shown
 
-shown : {x l l′ : List ℕ} {r : ℕ} → Written x l 0 l′ r → length x ≤ 31 → Shown x l′ r
+shown : {x l l′ : List ℕ} {r : ℕ} → Written x l 0 l′ r → length x ≤ 31 → Shown x l l′ r
 shown {x} {l} {l′} {r} w s =
     let e : r ≡ length x = w .end ∙ zero-add (length x) in
-    record { end = e; front = w .front; short = omega (arith, e, s); within = written-within w; counts = written-counts w }
+    record { end = e; front = w .front; rest = w .rest; short = omega (arith, e, s); within = written-within w; counts = written-counts w }
 
 -- no bytes
-nothing : (l : List ℕ) → Shown [] l 0
-nothing l = record { end = refl; front = refl; short = omega arith; within = omega arith; counts = refl }
+nothing : (l : List ℕ) → Shown [] l l 0
+nothing l = record { end = refl; front = refl; rest = refl; short = omega arith; within = omega arith; counts = refl }
 
-pub shown-as : {x y l : List ℕ} {r : ℕ} → x ≡ y → Shown x l r → Shown y l r
-shown-as {x} {y} {l} {r} e s = rw (← e) s
+pub shown-as : {x y l l′ : List ℕ} {r : ℕ} → x ≡ y → Shown x l l′ r → Shown y l l′ r
+shown-as e s = rw (← e) s
 
-pub shown-nothing : {y : List ℕ} (l : List ℕ) → [] ≡ y → Shown y l 0
+pub shown-nothing : {y : List ℕ} (l : List ℕ) → [] ≡ y → Shown y l l 0
 shown-nothing l e = shown-as e (nothing l)
 
 length-refused : (a : ℕ) → length (refusedLine a) ≤ 28
 unfolding refusedLine ascii
 length-refused a = rw length-append (omega (arith, length-digits 20 a))
 
-pub shown-refused : (a : ℕ) {l l′ : List ℕ} {r : ℕ} → Written (refusedLine a) l 0 l′ r → Shown (refusedLine a) l′ r
+pub shown-refused : (a : ℕ) {l l′ : List ℕ} {r : ℕ} → Written (refusedLine a) l 0 l′ r → Shown (refusedLine a) l l′ r
 shown-refused a w = shown w (omega (arith, length-refused a))
 
 module _ (file : List ℕ) (n : ℕ) {a w : ℕ} (e : a ≡ 4 * n) (f : w ≡ wordOf file n) (h : w < 2 ^ 32) {d : ℕ} (g : d ≡ dataStartOf file) {l l′ : List ℕ} {r : ℕ} where
-  pub shown-data : d ≤ a → Written (dataLine a w) l 0 l′ r → Shown (wordLine file n) l′ r
+  pub shown-data : d ≤ a → Written (dataLine a w) l 0 l′ r → Shown (wordLine file n) l l′ r
   shown-data k v = shown-as (rw (e, f) (line-data file n (rw (e, g) at k))) (shown v (data-short a w h))
 
-  pub shown-text : a < d → Written (textLine a w) l 0 l′ r → Shown (wordLine file n) l′ r
+  pub shown-text : a < d → Written (textLine a w) l 0 l′ r → Shown (wordLine file n) l l′ r
   shown-text k v = shown-as (rw (e, f) (line-text file n (rw (e, g) at k))) (shown v (text-short a w h))

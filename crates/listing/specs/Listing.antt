@@ -3,7 +3,7 @@ use Prim.Native.Nat.{ℕ, zero, suc, _+_, _*_, _/_, _≤_}
 use mathlib.Core.List.{List, [], _∷_, _++_}
 use mathlib.Core.Path.{_≡_}
 use lib.Dec.{eqb, leb}
-use lib.ListN.{length, getD, take}
+use lib.ListN.{length, getD, take, drop}
 use Rattle.word.specs.Word.{if_then_else_}
 use Rattle.memory.specs.Memory.{loadN}
 use Rattle.executable.specs.Executable.{loadNumber, loadAnswer, dataStartOf, bodyOf}
@@ -52,10 +52,12 @@ listingOf file = if eqb (answerOf file) 0 then wordLines file (wordsOf file) 0 e
 unfoldable pub lineOf : List ℕ → ℕ → List ℕ
 lineOf file n = getD (listingOf file) n []
 
--- the first r bytes of l are a line, which has at most 31; the last two parts follow from the first two, and stand here for callers that lend those bytes on
-pub record Shown (line l : List ℕ) (r : ℕ) : Type 0 where
+-- a line was written at the start of the lent bytes l, which are then l′: it has r bytes, at most 31, and what stands after them stays; the last two parts follow
+-- from the first two, and stand here for callers that lend those bytes on
+pub record Shown (line l l′ : List ℕ) (r : ℕ) : Type 0 where
   pub end : r ≡ length line
-  pub front : take r l ≡ line
+  pub front : take r l′ ≡ line
+  pub rest : drop r l′ ≡ drop r l
   pub short : r ≤ 31
-  pub within : r ≤ length l
-  pub counts : r ≡ length (take r l)
+  pub within : r ≤ length l′
+  pub counts : r ≡ length (take r l′)

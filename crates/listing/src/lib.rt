@@ -36,7 +36,7 @@ pub fn line_number(answer: LineAnswer) -> u32
 // The line of a refused file.
 fn refused_line(line: &mut [u8], number: u32) -> usize
     requires { ⌜ 28 ≤ length (now line) ⌝ }
-    ensures { λ r. ⌜ Shown (refusedLine number) (now (line .exit)) r ⌝ }
+    ensures { λ r. ⌜ Shown (refusedLine number) (now (line .entry)) (now (line .exit)) r ⌝ }
 {
     let end = text::put(line, 0, b"refused ");
     text::decimal(line, end, number as u64)
@@ -66,7 +66,7 @@ fn padded_word(s: &[u8], at: usize) -> u32
 // The line of the n-th word of an accepted file.
 fn word_line(file: &[u8], n: usize, line: &mut [u8; 64]) -> usize
     requires { ⌜ HasWord (now file) n ⌝ }
-    ensures { λ r. ⌜ Shown (wordLine (now (file .entry)) n) (now (line .exit)) r ⌝ }
+    ensures { λ r. ⌜ Shown (wordLine (now (file .entry)) n) (now (line .entry)) (now (line .exit)) r ⌝ }
 {
     let address = (4 * n) as u32;
     let word = padded_word(file, 16 + 4 * n);
@@ -78,7 +78,7 @@ fn word_line(file: &[u8], n: usize, line: &mut [u8; 64]) -> usize
 
 // Line n of a file's listing, from 0, without its newline. The result is its length; 0 where the listing has no such line.
 pub fn line_at(file: &[u8], n: usize, line: &mut [u8; 64]) -> usize
-    ensures { λ r. ⌜ Shown (lineOf (now (file .entry)) n) (now (line .exit)) r ⌝ }
+    ensures { λ r. ⌜ Shown (lineOf (now (file .entry)) n) (now (line .entry)) (now (line .exit)) r ⌝ }
 {
     let answer = executable::judge(MEMORY, file);
     let number = executable::load_number(answer);

@@ -1,7 +1,7 @@
 -- The fields of a word's line, written one after another.
 use Prim.Native.Nat.{ℕ, _%_}
 use mathlib.Core.List.{List, [], _∷_, _++_, append-nil}
-use mathlib.Core.Path.{_≡_, sym, _∙_, ap}
+use mathlib.Core.Path.{_≡_, refl, sym, _∙_, ap}
 use native.Mathlib.Omega.{arith}
 use lib.ListN.{length, take, length-append}
 use lib.Seq.{append-snoc}
@@ -27,7 +27,7 @@ fields-end a w v = v .end ∙ rw (length-fields a w) (omega arith)
 -- ---- the operand
 
 nothing-written : (l : List ℕ) (at : ℕ) → Written [] l at l at
-nothing-written l at = record { end = omega arith; front = sym (append-nil (take at l)) }
+nothing-written l at = record { end = omega arith; front = sym (append-nil (take at l)); rest = refl }
 
 module _ {form : OperandForm} (a i : ℕ) where
   pub no-operand : (l : List ℕ) (at : ℕ) → form ≡ Nothing → Written (operandOf form a i) l at l at

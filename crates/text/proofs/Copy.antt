@@ -5,7 +5,7 @@ use mathlib.Core.Path.{_≡_, refl, _∙_, ap}
 use native.Mathlib.Numerals.{add-one}
 use native.Mathlib.Omega.{arith}
 use lib.ListN.{length, getD, take, set, length-set}
-use lib.Seq.{paste, paste-zero, paste-suc, take-paste, take-all, take-suc-set}
+use lib.Seq.{paste, paste-zero, paste-suc, take-paste, drop-paste, take-all, take-suc-set, drop-set-lt}
 use Rattle.text.specs.Written.{Written}
 
 -- the first i of the bytes stand in the line from `at` on
@@ -32,8 +32,9 @@ copied-end {s} {l₀} {l} {at} {i} room h f =
     record {
       end = ap (λ (k : ℕ). at + k) e;
       front = rw (f .same) (take-paste l₀ at s i (omega arith) (omega arith)) ∙ ap (λ (t : List ℕ). take at l₀ ++ t) (take-all i s h);
+      rest = rw (f .same) (drop-paste l₀ at s i (omega arith) (omega arith));
     }
 
 -- a single byte
 pub written-byte : (l : List ℕ) (at x : ℕ) → at < length l → Written (x ∷ []) l at (set l at x) (at + 1)
-written-byte l at x h = record { end = refl; front = rw add-one (take-suc-set l at x h) }
+written-byte l at x h = record { end = refl; front = rw add-one (take-suc-set l at x h); rest = drop-set-lt (at + 1) l at x (omega arith) }

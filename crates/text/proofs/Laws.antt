@@ -7,7 +7,8 @@ use native.Mathlib.Nat.{zero-add}
 use native.Mathlib.Omega.{arith}
 use borrow.Author.Tests.{ltb-true, ltb-false, lt-ltb, le-ltb}
 use lib.Dec.{ltb}
-use lib.ListN.{length, take, length-append, length-take}
+use lib.ListN.{length, take, drop, length-append, length-take}
+use lib.Seq.{drop-drop}
 use Rattle.word.specs.Word.{if_then_else_}
 use Rattle.text.specs.Digits.{digitOf, digits, decimalOf}
 use Rattle.text.specs.Signed.{signedOf}
@@ -96,6 +97,7 @@ pub written-then : {x y l l′ l″ : List ℕ} {at r s : ℕ} → Written x l a
 written-then {x} {y} {l} {l′} {l″} {at} {r} {s} v w = record {
   end = rw length-append (omega (arith, v .end, w .end));
   front = w .front ∙ ap (λ (t : List ℕ). t ++ y) (v .front) ∙ append-assoc (take at l) x y;
+  rest = w .rest ∙ rw (w .end, ← drop-drop (length y) r l′, ← drop-drop (length y) r l) (ap (drop (length y)) (v .rest));
 }
 
 pub written-as : {x y l l′ : List ℕ} {at r : ℕ} → x ≡ y → Written x l at l′ r → Written y l at l′ r
