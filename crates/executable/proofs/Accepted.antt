@@ -37,7 +37,6 @@ pub record Fit (size : ℕ) (file : List ℕ) : Type 0 where
   pub most : size ≤ 134217728
   pub header : 16 ≤ length file
   pub body : length file - 16 ≤ size
-  pub start : dataStartOf file ≤ length file - 16
   pub entry : entryOf file % 4 ≡ 0
   pub text : entryOf file + 4 ≤ dataStartOf file
 
@@ -59,7 +58,6 @@ fit size file e =
       most = leb-true size 134217728 (upTo .1);
       header = leb-true 16 (length file) (headed .0);
       body = leb-true (length file - 16) size (both (ltb 0 (length file - 16)) _ (bodied .0) .1);
-      start = leb-true (dataStartOf file) (length file - 16) (started .0);
       entry = eqb-true (entryOf file % 4) 0 (both (eqb (entryOf file % 4) 0) _ (entered .0) .0);
       text = leb-true (entryOf file + 4) (dataStartOf file) (both (eqb (entryOf file % 4) 0) _ (entered .0) .1);
     }
