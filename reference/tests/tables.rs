@@ -1,7 +1,7 @@
 //! What must come of the tables of operations.
 
 mod common;
-use common::{after, After};
+use common::after;
 use reference::directed::tables::{ARITHMETIC, BRANCHES, COMPARED, COMPARISONS};
 use reference::directed::tables::{NARROW, NOT_TAKEN, OPERANDS, ROWS};
 
@@ -28,18 +28,13 @@ const RESULTS: [(&str, [u32; 5]); 13] = [
     ("SRU", [0, 0x3fff_fffe, 0, 1, 0x4000_0000]),
 ];
 
-/// The results that a table has left in its rows.
-fn rows(after: &After, count: usize) -> Vec<u32> {
-    (0..count as u32).map(|row| after.word(ROWS + 16 * row)).collect()
-}
-
 #[test]
 fn arithmetic_from_each_source() {
     assert_eq!(RESULTS.map(|row| row.0), ARITHMETIC);
     let expected = RESULTS.map(|row| row.1).concat();
     for source in ["b", "imm", "a word of the stack"] {
         let after = after(&format!("arithmetic with {source}"));
-        assert_eq!(rows(&after, ARITHMETIC.len() * OPERANDS.len()), expected, "{source}");
+        assert_eq!(after.rows(ARITHMETIC.len() * OPERANDS.len()), expected, "{source}");
     }
 }
 
@@ -59,7 +54,7 @@ const IS_ZERO: [u32; 7] = [0, 0, 0, 0, 0, 1, 0];
 #[test]
 fn comparisons() {
     let after = after("comparisons");
-    assert_eq!(rows(&after, COMPARISONS.len() * COMPARED.len()), HOLDS.concat());
+    assert_eq!(after.rows(COMPARISONS.len() * COMPARED.len()), HOLDS.concat());
 }
 
 /// A branch that is taken leaves a in its row.
@@ -73,7 +68,7 @@ fn branches() {
         .zip(operands)
         .map(|(holds, (a, _))| if *holds == 1 { *a } else { NOT_TAKEN })
         .collect();
-    assert_eq!(rows(&after, BRANCHES.len() * COMPARED.len()), expected);
+    assert_eq!(after.rows(BRANCHES.len() * COMPARED.len()), expected);
 }
 
 /// S and C forms extend the sign, H and B don't.

@@ -3,6 +3,7 @@
 
 pub mod addresses;
 pub mod clock;
+pub mod division;
 pub mod every;
 pub mod large;
 pub mod marks;
@@ -28,6 +29,7 @@ pub fn all() -> Vec<Named> {
         .chain(named(addresses::cases()))
         .chain(named(opcodes::cases()))
         .chain(named(tables::cases()))
+        .chain(division::cases())
         .chain(every::cases())
         .chain(refusals::cases())
         .chain(named(large::cases()))

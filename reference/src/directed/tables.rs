@@ -26,7 +26,6 @@ pub const COMPARED: [(u32, u32); 7] =
     [(5, 5), (1, 2), (2, 1), (0x8000_0000, 1), (1, 0x8000_0000), (0, 1), (1, 0)];
 
 pub fn cases() -> Vec<(&'static str, Runs)> {
-    let register = |name: &str, _| vec![op("POPA", 0), op("POPB", 0), op(name, 0)];
     // c takes the word that b would: b is another number.
     let stack = |name: &str, _| vec![op("POPA", 0), op("POPC", 0), op(&format!("{name}L"), -8)];
     let immediate =
@@ -36,18 +35,23 @@ pub fn cases() -> Vec<(&'static str, Runs)> {
         [&[op("POPA", 0), op("POPB", 0)], &skipped[..]].concat()
     };
     vec![
-        ("arithmetic with b", table(&ARITHMETIC, &OPERANDS, register)),
+        ("arithmetic with b", table(&ARITHMETIC, &OPERANDS, on_b)),
         ("arithmetic with imm", table(&ARITHMETIC, &OPERANDS, immediate)),
         ("arithmetic with a word of the stack", table(&ARITHMETIC, &OPERANDS, stack)),
-        ("comparisons", table(&COMPARISONS, &COMPARED, register)),
+        ("comparisons", table(&COMPARISONS, &COMPARED, on_b)),
         ("branches", table(&BRANCHES, &COMPARED, branch)),
         ("extension", extension(0x9181)),
         ("extension of positive numbers", extension(0x7f12)),
     ]
 }
 
+/// A row of an operation on a and b.
+pub fn on_b(name: &str, _: u32) -> Vec<u32> {
+    vec![op("POPA", 0), op("POPB", 0), op(name, 0)]
+}
+
 /// Each operation on each pair of operands, in one run.
-fn table(names: &[&str], operands: &[(u32, u32)], row: impl Fn(&str, u32) -> Vec<u32>) -> Runs {
+pub fn table(names: &[&str], operands: &[(u32, u32)], row: impl Fn(&str, u32) -> Vec<u32>) -> Runs {
     let mut program = Vec::new();
     let mut data = Vec::new();
     for name in names {

@@ -2,6 +2,7 @@
 #![allow(dead_code)]
 
 use reference::case::{Case, Runs};
+use reference::directed::tables::ROWS;
 use reference::directed::{all, Named};
 use reference::machine::Machine;
 use reference::run::Outcome;
@@ -47,6 +48,11 @@ impl After {
 
     pub fn word(&self, at: u32) -> u32 {
         get(&self.machine.memory, at, 4)
+    }
+
+    /// The results that a table has left in its rows.
+    pub fn rows(&self, count: usize) -> Vec<u32> {
+        (0..count as u32).map(|row| self.word(ROWS + 16 * row)).collect()
     }
 
     pub fn entries(&self) -> Vec<(u32, u32, bool, bool)> {
