@@ -25,6 +25,17 @@ pub fn arithmetic() -> Vec<u32> {
     ]
 }
 
+/// Signed quotients and remainders, of every two signs.
+pub fn divisions() -> Vec<u32> {
+    let divided = |(a, b): (i32, i32)| {
+        let with_b = [op(LI, a), op(LBI, b), op(DIV, 0), op(LI, a), op(MOD, 0)];
+        let with_imm = [op(LI, a), op(DIVI, b), op(LI, a), op(MODI, b)];
+        [&with_b[..], &with_imm[..]].concat()
+    };
+    let (a, b) = (8_000_001, 7);
+    [(a, b), (-a, b), (a, -b), (-a, -b)].map(divided).concat()
+}
+
 /// Loads, stores, a push, a pop, and a call whose target is the return that follows it.
 pub fn transfers() -> Vec<u32> {
     let mut body = vec![

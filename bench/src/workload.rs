@@ -4,7 +4,7 @@ use crate::case::{Case, Run, RUN_PACKED, SINGLE_STEP};
 use crate::opcode::{op, RTI};
 use crate::plain::Machine;
 use crate::program::{
-    arithmetic, copy_16_kib, mixed, pages, repeated, touched, transfers, FAR_PAGE,
+    arithmetic, copy_16_kib, divisions, mixed, pages, repeated, touched, transfers, FAR_PAGE,
 };
 
 pub struct Workload {
@@ -46,6 +46,7 @@ fn twenty_pages() -> Vec<u32> {
 pub fn all() -> Vec<Workload> {
     vec![
         unpaged("arithmetic", repeated(arithmetic())),
+        unpaged("signed division", repeated(divisions())),
         unpaged("loads, stores, calls", repeated(transfers())),
         paged("loads, stores, calls on 20 pages", twenty_pages()),
         unpaged("all families", repeated(mixed())),

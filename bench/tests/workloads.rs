@@ -39,6 +39,15 @@ fn none_stops_and_paging_stays() {
 }
 
 #[test]
+fn signed_divisions_are_sixteen_of_37_steps() {
+    let seen = seen(&named("signed division"), 10 * 37);
+    for code in [DIV, DIVI, MOD, MODI] {
+        assert_eq!(seen.opcodes[&code], 10 * 4, "{code:#x}");
+    }
+    assert_eq!(seen.traps, 0);
+}
+
+#[test]
 fn twenty_pages_and_the_code_and_the_stack_are_held() {
     let seen = seen(&named("loads, stores, calls on 20 pages"), 10_000);
     assert_eq!((seen.machine.held, seen.emptied), (22, 0));
