@@ -2,31 +2,16 @@
 -- by -1 gives 0x80000000 and 0."
 use Prim.Native.Nat.{ℕ, zero, suc, _*_, _/_, _%_, _^_, _≤_, _<_}
 use mathlib.Core.Path.{_≡_, refl, sym, ap, _∙_}
-use mathlib.Core.Bool.{true, false, _&&_}
+use mathlib.Core.Bool.{false}
 use mathlib.Core.Logic.{_⊎_, inl, inr}
 use native.Mathlib.Nat.{zero-mul, div-le-self, div-lt-self, div-one, div-add-mod', mod-lt, le-of-lt, le-trans, lt-of-le-of-lt}
 use native.Mathlib.Omega.{arith}
-use borrow.Author.Tests.{eqb-true, eq-eqb}
-use lib.Dec.{eqb}
 use lib.IntN.{ℤ, pos, negsuc, negℤ, natAbs, _+ℤ_, _*ℤ_, negℤ-+ℤ}
 use lib.Signed.{mag, nonNeg, quotZ, remZ, mag-rem}
 use mir.Syntax.{w32}
 use mir.Val.{toZ, ofZ, Fits, SFits}
 use mir.Facts.{toZ-ofZ, ofZ-toZ, sfits-toZ}
 use Rattle.word.specs.Word.{quotient, remainder}
-use Rattle.word.proofs.BoolLaws.{both}
-use Rattle.word.proofs.Conversion.{on-signed}
-
--- ---- the test for -2^31 by -1
-
--- where it passed, f has the value that it has at the two constants
-pub passed : (f : ℕ → ℕ → ℕ) (x y : ℕ) {a b r : ℕ} → f a b ≡ r → (eqb x a && eqb y b) ≡ true → r ≡ f x y
-passed f x y {a} {b} e h = let t = both (eqb x a) (eqb y b) h in rw (eqb-true x a (t .0), eqb-true y b (t .1)) (sym e)
-
--- where it failed, the two equations do not both hold
-pub failed : {x y a b : ℕ} → (eqb x a && eqb y b) ≡ false → x ≡ a → y ≡ b → ⊥
-failed {x} {y} {a} {b} h p q =
-    let e : true ≡ false = rw (eq-eqb x a p, eq-eqb y b q) at h in let z : _≡_ {A = ℕ} 0 1 = cc in omega arith
 
 -- ---- the range
 
@@ -57,11 +42,6 @@ module _ {x y : ℕ} (fx : Fits w32 x) (fy : Fits w32 y) where
   quotient-fits h =
       quotZ-fits (toZ w32 x) (toZ w32 y) (sfits-toZ fx)
       (λ p q. h (sym (ofZ-toZ fx) ∙ ap (ofZ w32) p) (sym (ofZ-toZ fy) ∙ ap (ofZ w32) q))
-
-  -- what `/` and `%` ask of two locals of type i32
-  pub division-safe : {z d : ℤ} → z ≡ toZ w32 x → d ≡ toZ w32 y → 0 < y → (x ≡ 2147483648 → y ≡ 4294967295 → ⊥)
-      → (0 < ofZ w32 d) × SFits w32 (quotZ (toZ w32 (ofZ w32 z)) (toZ w32 (ofZ w32 d)))
-  division-safe p q n h = (rw (q, ofZ-toZ fy) n, rw (on-signed fx fy p q quotZ) (quotient-fits h))
 
 -- ---- the law
 
@@ -117,6 +97,9 @@ abs-pos : (z : ℤ) → SFits w32 z → 0 < ofZ w32 z → 0 < natAbs z
 abs-pos (pos n) f h = h
 abs-pos (negsuc n) f h = omega arith
 
+pub not-zero : {y : ℕ} → Fits w32 y → 0 < y → 0 < natAbs (toZ w32 y)
+not-zero {y} fy p = abs-pos (toZ w32 y) (sfits-toZ fy) (rw (ofZ-toZ fy) p)
+
 -- for every dividend and every divisor but 0, -2^31 by -1 apart
 pub divided : (x y : ℕ) → x < 2 ^ 32 → y < 2 ^ 32 → 0 < y → (x ≡ 0x80000000 → y ≡ 0xFFFFFFFF → ⊥)
     → Divided (toZ w32 x) (toZ w32 y) (toZ w32 (quotient x y)) (toZ w32 (remainder x y))
@@ -127,7 +110,7 @@ divided x y hx hy p h =
     rw (toZ-ofZ (quotient-fits fx fy h), toZ-ofZ (remainder-fits fx y))
     (record {
       whole = whole-of (toZ w32 x) (toZ w32 y);
-      small = small-of (toZ w32 x) (toZ w32 y) (abs-pos (toZ w32 y) (sfits-toZ fy) (rw (ofZ-toZ fy) p));
+      small = small-of (toZ w32 x) (toZ w32 y) (not-zero fy p);
       sign = sign-of (toZ w32 x) (toZ w32 y);
     })
 

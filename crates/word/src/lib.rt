@@ -5,6 +5,7 @@ ghost use mir.Syntax.{w32};
 ghost use mir.Val.{toZ, ofZ};
 ghost use Rattle.word.specs.Word.{sum, difference, product, extend, quotient, remainder};
 ghost use Rattle.word.specs.Word.{shiftLeft, shiftRight, shiftRightUnsigned, shiftCount, lessSigned};
+ghost use Rattle.word.specs.Magnitude.{magnitude, negative, withSign};
 
 // The low 32 bits of a sum.
 pub fn sum(x: u32, y: u32) -> u32
@@ -45,33 +46,44 @@ fn unsigned(z: i32) -> u32
     if 0 <= z { z as u32 } else { !((!z) as u32) }
 }
 
-// The words of -2^31 and -1, whose quotient no i32 holds.
-const LEAST: u32 = 0x8000_0000;
+// Whether a word stands for a negative number.
+fn negative(x: u32) -> bool
+    ensures { λ r. ⌜ r ≡ negative x ⌝ }
+{
+    x >= 0x8000_0000
+}
 
-const MINUS_ONE: u32 = 0xFFFF_FFFF;
+// The magnitude of the number that a word stands for: 7 for -7, 2^31 for -2^31.
+fn magnitude(x: u32) -> u32
+    ensures { λ r. ⌜ r ≡ magnitude x ⌝ }
+{
+    if negative(x) { difference(0, x) } else { x }
+}
 
-// The signed quotient, cut toward zero.
+// A magnitude with its sign put back.
+fn with_sign(minus: bool, m: u32) -> u32
+    ensures { λ r. ⌜ r ≡ withSign minus m ⌝ }
+{
+    if minus { difference(0, m) } else { m }
+}
+
+// The signed quotient, cut toward zero. -7 by 2: 7 / 2 is 3, the signs differ, so -3.
+// -2^31 by -1 needs no test: 2^31 / 1 is 2^31, whose word is 0x80000000.
 pub fn quotient(x: u32, y: u32) -> u32
     requires { ⌜ 0 < y ⌝ }
     ensures { λ r. ⌜ r ≡ quotient x y ⌝ }
 {
-    if (x == LEAST) & (y == MINUS_ONE) {
-        LEAST
-    } else {
-        unsigned(signed(x) / signed(y))
-    }
+    let q = magnitude(x) / magnitude(y);
+    with_sign(negative(x) != negative(y), q)
 }
 
-// The signed remainder, with the sign of the dividend.
+// The signed remainder, with the sign of the dividend. -7 by 2: 7 % 2 is 1, so -1.
 pub fn remainder(x: u32, y: u32) -> u32
     requires { ⌜ 0 < y ⌝ }
     ensures { λ r. ⌜ r ≡ remainder x y ⌝ }
 {
-    if (x == LEAST) & (y == MINUS_ONE) {
-        0
-    } else {
-        unsigned(signed(x) % signed(y))
-    }
+    let r = magnitude(x) % magnitude(y);
+    with_sign(negative(x), r)
 }
 
 // A shift to the left by any count, taken modulo 32.

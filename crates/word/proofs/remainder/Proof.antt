@@ -1,36 +1,26 @@
--- -2^31 by -1 is tested for and computed apart (`remainder-least`); any other remainder of signed readings fits an i32 (`remainder-fits`), and its word is
--- the rule's (`signed-result`).
+-- The divisor's magnitude is not 0 (`magnitude-pos`); the magnitudes' remainder with the dividend's sign is the rule's (`remainder-signs`).
 use borrow.Author.Needs.{needs}
-use lib.Signed.{remZ}
-use Rattle.word.specs.Word.{remainder}
-use Rattle.word.proofs.Conversion.{signed-result}
-use Rattle.word.proofs.Division.{passed, failed, division-safe, remainder-fits, remainder-least}
+use Rattle.word.proofs.Magnitudes.{magnitude-pos, remainder-signs}
 use Rattle.word.proofs.remainder.Statement.{statement}
 use Rattle.word.proofs.remainder.Tie as tie
 
-rem-unsigned : tie.Need-rem-unsigned
-rem-unsigned c =
-    let fits = c .before .before .before .fits in
-    let pre = c .before .before .before .pre in
-    division-safe (fits .x) (fits .y) (c .before .signed .ensures) (c .signed2 .ensures) pre (failed (c .before .before .if1 .left))
+rem-r : tie.Need-rem-r
+rem-r c =
+    let at-start = c .before .before in
+    rw (c .magnitude2 .ensures) (magnitude-pos (at-start .args .y) (at-start .fits .y .fits) (at-start .pre))
 
 returns : tie.Need-returns
-returns c = passed remainder (c .before .args .x) (c .before .args .y) remainder-least (c .if1 .taken)
-
-returns-2 : tie.Need-returns-2
-unfolding remainder
-returns-2 c =
-    let given = c .before .before .before .before .args in
-    let fits = c .before .before .before .before .fits in
-    signed-result (fits .x) (fits .y) (c .before .before .signed .ensures) (c .before .signed2 .ensures) remZ (remainder-fits (fits .x) (given .y))
-    (c .unsigned .ensures)
+returns c =
+    let at-magnitude2 = c .before .before in
+    let given = at-magnitude2 .before .before .args in
+    rw (c .with-sign .ensures, c .before .negative .ensures, at-magnitude2 .before .magnitude .ensures, at-magnitude2 .magnitude2 .ensures)
+    (remainder-signs (given .x) (given .y))
 
 pub remainder-spec : {M : Type 1} → statement M
 remainder-spec =
     tie.close
     (tie.spec
     (λ c κs. search needs) (λ c κs. search needs)
-    rem-unsigned
-    (λ c κs. search needs)
-    returns
-    returns-2)
+    rem-r
+    (λ c κs. search needs) (λ c κs. search needs)
+    returns)
