@@ -30,8 +30,8 @@ pub struct Advanced {
 fn instructions(
     c: Cpu,
     limit: u64,
-    user: bool,
     space: Space,
+    user: bool,
     mem: &mut [u8],
     tlb: &mut [u64],
     hint: &mut [u8; 256],
@@ -121,7 +121,7 @@ pub fn step(
     if t.system.waiting {
         return t;
     }
-    let b = instructions(c, c.regs.count + 1, c.system.user, c.space, mem, tlb, hint);
+    let b = instructions(c, c.regs.count + 1, c.space, c.system.user, mem, tlb, hint);
     settle(t, b, mem, console, tlb, hint)
 }
 
@@ -156,7 +156,7 @@ pub fn advance(
             left: left - 1,
         };
     }
-    let b = instructions(c, c.regs.count + n, c.system.user, c.space, mem, tlb, hint);
+    let b = instructions(c, c.regs.count + n, c.space, c.system.user, mem, tlb, hint);
     let r = b.regs;
     let e = b.end;
     let End::Ok = e else {

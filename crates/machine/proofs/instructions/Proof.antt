@@ -11,13 +11,13 @@ use Rattle.machine.proofs.instructions.Tie as tie
 
 -- memory and page buffer keep their lengths and are good, and so far the steps up to r's count are made
 abbrev Inv-loop : tie.InvT-loop
-Inv-loop limit user space mem₀ tlb₀ hint₀ r₀ mem tlb hint r =
+Inv-loop limit space user mem₀ tlb₀ hint₀ r₀ mem tlb hint r =
     (length mem ≡ length mem₀)
     × ((length tlb ≡ length tlb₀)
     × (Good (length mem) (space .pdir) tlb × MadeFrom r₀ user space limit mem₀ tlb₀ r mem tlb))
 
 abbrev μ-loop : tie.MeasureT-loop
-μ-loop limit user space mem₀ tlb₀ hint₀ r₀ mem tlb hint r = limit - r .count
+μ-loop limit space user mem₀ tlb₀ hint₀ r₀ mem tlb hint r = limit - r .count
 
 loop-holds : tie.Need-loop-holds Inv-loop μ-loop
 loop-holds c =
