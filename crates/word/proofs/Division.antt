@@ -33,15 +33,14 @@ quotZ-fits (negsuc a) (negsuc (suc b)) f h =
     record { sfits = omega (arith, f .sfits) }
 
 -- a remainder stays in the range
-pub remainder-fits : {x : ℕ} → Fits w32 x → (y : ℕ) → SFits w32 (remZ (toZ w32 x) (toZ w32 y))
+remainder-fits : {x : ℕ} → Fits w32 x → (y : ℕ) → SFits w32 (remZ (toZ w32 x) (toZ w32 y))
 remainder-fits {x} fx y = record { sfits = lt-of-le-of-lt (mag-rem (toZ w32 x) (toZ w32 y)) (sfits-toZ fx .sfits) }
 
-module _ {x y : ℕ} (fx : Fits w32 x) (fy : Fits w32 y) where
-  -- and so does a quotient, -2^31 by -1 apart
-  pub quotient-fits : (x ≡ 2147483648 → y ≡ 4294967295 → ⊥) → SFits w32 (quotZ (toZ w32 x) (toZ w32 y))
-  quotient-fits h =
-      quotZ-fits (toZ w32 x) (toZ w32 y) (sfits-toZ fx)
-      (λ p q. h (sym (ofZ-toZ fx) ∙ ap (ofZ w32) p) (sym (ofZ-toZ fy) ∙ ap (ofZ w32) q))
+-- and so does a quotient, -2^31 by -1 apart
+quotient-fits : {x y : ℕ} → Fits w32 x → Fits w32 y → (x ≡ 2147483648 → y ≡ 4294967295 → ⊥) → SFits w32 (quotZ (toZ w32 x) (toZ w32 y))
+quotient-fits {x} {y} fx fy h =
+    quotZ-fits (toZ w32 x) (toZ w32 y) (sfits-toZ fx)
+    (λ p q. h (sym (ofZ-toZ fx) ∙ ap (ofZ w32) p) (sym (ofZ-toZ fy) ∙ ap (ofZ w32) q))
 
 -- ---- the law
 
@@ -92,11 +91,12 @@ sign-of : (z d : ℤ) → (remZ z d ≡ pos 0) ⊎ (nonNeg (remZ z d) ≡ nonNeg
 sign-of (pos a) d = inr refl
 sign-of (negsuc a) d = sign-neg (suc a % natAbs d)
 
--- a word that is not 0 has a signed reading that is not 0
+-- a signed number whose word is not 0 is not 0
 abs-pos : (z : ℤ) → SFits w32 z → 0 < ofZ w32 z → 0 < natAbs z
 abs-pos (pos n) f h = h
 abs-pos (negsuc n) f h = omega arith
 
+-- a word that is not 0 has a signed reading that is not 0
 pub not-zero : {y : ℕ} → Fits w32 y → 0 < y → 0 < natAbs (toZ w32 y)
 not-zero {y} fy p = abs-pos (toZ w32 y) (sfits-toZ fy) (rw (ofZ-toZ fy) p)
 

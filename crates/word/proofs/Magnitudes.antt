@@ -40,12 +40,12 @@ module _ (x y : ℕ) where
 
 -- ---- the magnitude of an answer
 
--- of the word of a negative number: its magnitude up to 2^31
+-- up to 2^31 the word of -m has the magnitude m
 negative-kept : (m : ℕ) → m ≤ 2 ^ 31 → natAbs (toZ w32 (ofZ w32 (negℤ (pos m)))) ≡ m
 negative-kept zero h = refl
 negative-kept (suc n) h = ap natAbs (toZ-neg w32 n h)
 
--- of the word of a positive one: 2^31, which has none, gives that of -2^31, whose magnitude it is
+-- and so has the word of m: that of 2^31 is that of -2^31
 positive-kept : {m : ℕ} → (m ≡ 2 ^ 31) ⊎ (m < 2 ^ 31) → natAbs (toZ w32 m) ≡ m
 positive-kept (inl e) = rw e refl
 positive-kept (inr l) = ap natAbs (toZ-pos w32 l)
