@@ -130,7 +130,7 @@ impl Builder<'_> {
 
     /// A frame mostly in memory, at times just or far beyond it.
     fn any_frame(&mut self) -> u32 {
-        match self.rng.weighted(&[30, 1, 1]) {
+        match self.rng.weighted(&[12, 1, 1]) {
             0 => self.frame(),
             1 => self.frames,
             _ => self.rng.below(1 << 20),
@@ -145,7 +145,7 @@ impl Builder<'_> {
             self.fill_table(second, false);
         }
         for top in [1, 2, 1023] {
-            let frame = match self.rng.weighted(&[3, 3, 3, 1]) {
+            let frame = match self.rng.weighted(&[3, 3, 3, 2]) {
                 0 => table,
                 1 => second,
                 2 => directory,
