@@ -1,27 +1,36 @@
 //! Operand accesses: translate, drop low bits, read or store. A fault sets
-//! vadr to the address asked and ends the instruction.
+//! vadr to the address asked, the cause beside it, and ends the instruction.
 
 use crate::coverage::Storer;
 use crate::machine::Machine;
 use crate::mistake::Mistake;
 use crate::translate::{A, D};
-use crate::types::{Access, Trap, PAGE};
+use crate::types::{Access, Cause, Trap, PAGE};
 use crate::words;
 
 impl Machine {
     /// Translates in the current mode. `size` is 1, 2 or 4; the physical
     /// address comes back with its low bits dropped to that size.
     pub fn reach(&mut self, address: u32, access: Access, size: u32) -> Result<u32, Trap> {
-        match self.translate(address, access, self.is_by_user(access)) {
+        let user = self.is_by_user(access);
+        match self.translate(address, access, user) {
             Ok(physical) => Ok(physical & !(size - 1)),
-            Err(trap) => {
+            Err(fault) => {
                 let dropped = address & !(size - 1);
                 let misread = self.makes(Mistake::VadrLowBitsDropped)
                     || self.makes(Mistake::VadrDropped(self.opcode));
-                self.regs.vadr = if misread { dropped } else { address };
-                Err(trap)
+                let vadr = if misread { dropped } else { address };
+                self.coverage.causes.refused(fault.cause, access, user);
+                self.refuse(vadr, self.misnamed(fault, address, access, user));
+                Err(fault.trap)
             }
         }
+    }
+
+    /// vadr and the cause are set here, together, and nowhere else.
+    pub fn refuse(&mut self, vadr: u32, cause: Cause) {
+        self.regs.vadr = vadr;
+        self.regs.cause = cause;
     }
 
     fn is_by_user(&self, access: Access) -> bool {

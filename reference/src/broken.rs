@@ -151,12 +151,13 @@ fn fields() -> Vec<Vec<u8>> {
 }
 
 /// Too large for the record's fields (13 words, 4 flags, 2 marks, the stop
-/// reason), or for a slot's rights.
+/// reason, the cause), or for a slot's rights.
 fn numbers() -> Vec<Vec<u8>> {
     let place = |nth: usize| FIRST_NUMBER + 8 * nth;
-    let mut list: Vec<Vec<u8>> = (0..20).map(|nth| with(place(nth) + 4, 1)).collect();
+    let mut list: Vec<Vec<u8>> = (0..21).map(|nth| with(place(nth) + 4, 1)).collect();
     list.extend((13..19).map(|flag| with(place(flag), 2)));
     list.push(with(place(19), 4));
+    list.extend([8, 0x100, u32::MAX].map(|cause| with(place(20), cause)));
     for right in [SLOT + 8, SLOT + 12] {
         list.extend([2, 0x100, u32::MAX].map(|value| with(right, value)));
     }
@@ -190,7 +191,8 @@ fn unbroken() -> Vec<Vec<u8>> {
         with(MEMORY, 2_097_152),
         with(CONSOLE, 4096),
         with(COUNT, u32::MAX),
-        with(FIRST_NUMBER + 8 * 20 + 4, u32::MAX),
+        with(FIRST_NUMBER + 8 * 20, 7),
+        with(FIRST_NUMBER + 8 * 21 + 4, u32::MAX),
         with(SECOND_CHUNK, 4093),
         with(SECOND_CHUNK, 2),
         with(ENTRIES, 1),

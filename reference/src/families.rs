@@ -6,6 +6,7 @@ use crate::opcodes::decode::{decode, Op};
 use crate::opcodes::kinds::{can_fault_in_kernel, drops_bits, reads};
 use crate::opcodes::kinds::{sets_stack, sets_target, takes_imm, writes};
 use crate::opcodes::sets::{is_privileged, ILLEGAL, LEGAL, PRIVILEGED};
+use crate::types::{Access, Cause, Stop, Trap};
 
 /// Mistakes of one kind.
 pub struct Family<M> {
@@ -29,7 +30,7 @@ fn by_opcode(
 }
 
 pub fn families() -> Vec<Family<Mistake>> {
-    [opcodes(), operands(), accesses(), numbers()].into_iter().flatten().collect()
+    [opcodes(), operands(), accesses(), causes(), numbers()].into_iter().flatten().collect()
 }
 
 fn opcodes() -> Vec<Family<Mistake>> {
@@ -61,8 +62,13 @@ fn operands() -> Vec<Family<Mistake>> {
     ]
 }
 
+/// TRAP never does.
+fn completes(op: Op) -> bool {
+    op != Op::Trap
+}
+
 fn accesses() -> Vec<Family<Mistake>> {
-    use Mistake::{AsKernel, FaultOwnPc, ReadsAsWrite, VadrDropped, WritesAsRead};
+    use Mistake::{AsKernel, FaultOwnPc, ForgetsCause, ReadsAsWrite, VadrDropped, WritesAsRead};
     let either = |op: Op| reads(op) || writes(op);
     vec![
         by_opcode("opcode [0] keeps vadr after low bits drop", drops_bits, VadrDropped),
@@ -70,7 +76,65 @@ fn accesses() -> Vec<Family<Mistake>> {
         by_opcode("opcode [0] writes as if it read", writes, WritesAsRead),
         by_opcode("opcode [0] reaches memory as the kernel", either, AsKernel),
         by_opcode("opcode [0]'s fault stores its own address", can_fault_in_kernel, FaultOwnPc),
+        by_opcode("opcode [0], completed, sets the cause back", completes, ForgetsCause),
     ]
+}
+
+/// Causes that can hold at once, the first of which is named. A table beyond
+/// memory has no word.
+const AT_ONCE: [(Cause, &[Cause]); 5] = {
+    use Cause::*;
+    [
+        (DirectoryAbsent, &[DirectoryBeyond, TableAbsent, NoUserRight, NoWriteRight, FrameBeyond]),
+        (DirectoryBeyond, &[NoUserRight, NoWriteRight]),
+        (TableAbsent, &[NoUserRight, NoWriteRight, FrameBeyond]),
+        (NoUserRight, &[NoWriteRight, FrameBeyond]),
+        (NoWriteRight, &[FrameBeyond]),
+    ]
+};
+
+fn causes() -> Vec<Family<Mistake>> {
+    let all = &Cause::ALL[1..];
+    let at_once = AT_ONCE.iter().flat_map(|(low, list)| list.iter().map(|high| (*low, *high)));
+    let pdir = Cause::ALL.into_iter().filter(|cause| *cause != Cause::AddressBeyond);
+    let stops = [Stop::Masked, Stop::NoFrame];
+    let stopped = stops.iter().flat_map(|stop| all.iter().map(|cause| (*stop, *cause)));
+    vec![
+        family("cause [0] is named [1] ([2], user mode: [3])", misnamed()),
+        family(
+            "of two causes at once [1] is named, not [0]",
+            at_once.map(|(low, high)| Mistake::CauseOrder(low, high)),
+        ),
+        family("PDIR's own fault names [0]", pdir.map(Mistake::PdirCause)),
+        family("slot [0] of a frame, refused, sets the cause", (0..2).map(Mistake::SlotSetsCause)),
+        family(
+            "a stop ([0]) undoes the cause [1]",
+            stopped.map(|(stop, cause)| Mistake::StopForgetsCause(stop, cause)),
+        ),
+        family("trap [0] sets the cause back (stop reason then: [1])", forgetting()),
+    ]
+}
+
+/// Each cause, where it can come, as each other and as none.
+fn misnamed() -> Vec<Mistake> {
+    let mut list = Vec::new();
+    for cause in Cause::ALL {
+        for (access, user) in Access::ALL.into_iter().flat_map(|one| [(one, false), (one, true)]) {
+            let others = Cause::ALL.into_iter().filter(|other| *other != cause);
+            let named = others.map(|other| Mistake::CauseNamed(cause, other, access, user));
+            list.extend(named.filter(|_| cause.comes(access, user)));
+        }
+    }
+    list
+}
+
+/// Each trap without a cause, by what comes of it; an interrupt is never masked.
+fn forgetting() -> Vec<Mistake> {
+    let ends = [Stop::Running, Stop::Masked, Stop::NoFrame];
+    let traps = [Trap::Ftimer, Trap::Fkeybd, Trap::Fpriv, Trap::Finst, Trap::Fsys, Trap::Farith];
+    let pairs = traps.into_iter().flat_map(|trap| ends.map(|stop| (trap, stop)));
+    let comes = |pair: &(Trap, Stop)| !(pair.0.is_interrupt() && pair.1 == Stop::Masked);
+    pairs.filter(comes).map(|(trap, stop)| Mistake::TrapForgetsCause(trap, stop)).collect()
 }
 
 /// All i < j of a list.
@@ -116,6 +180,17 @@ pub fn opcode_of(mistake: Mistake) -> Option<u8> {
         ImmediateIsUnsigned(code) | ImmediateIsShort(code) => Some(code),
         TargetKeepsLowBits(code) | StackKeepsLowBits(code) | VadrDropped(code) => Some(code),
         ReadsAsWrite(code) | WritesAsRead(code) | AsKernel(code) | FaultOwnPc(code) => Some(code),
+        ForgetsCause(code) => Some(code),
+        _ => None,
+    }
+}
+
+/// The cause that a mistake is about; it shows only where it is named.
+pub fn cause_of(mistake: Mistake) -> Option<Cause> {
+    use Mistake::*;
+    match mistake {
+        CauseNamed(cause, ..) | CauseOrder(cause, _) | StopForgetsCause(_, cause) => Some(cause),
+        PdirCause(_) => Some(Cause::AddressBeyond),
         _ => None,
     }
 }

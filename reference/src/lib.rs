@@ -8,6 +8,7 @@ pub mod broken;
 pub mod buffer;
 pub mod calls;
 pub mod case;
+pub mod causes;
 pub mod clock;
 pub mod compare;
 pub mod coverage;

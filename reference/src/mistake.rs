@@ -3,6 +3,8 @@
 //! `mutants` command and the tests plant them to show that the cases tell them
 //! apart.
 
+use crate::types::{Access, Cause, Stop, Trap};
+
 /// An enum of mistakes: those that stand alone, each with what the planted code
 /// does instead of the rule, then families by opcode, number or the like.
 macro_rules! mistakes {
@@ -126,6 +128,25 @@ mistakes! {
     DirectoryDirty: "a write sets D in the directory word too",
     DirectoryBeyondAsPage: "a directory word that leads beyond memory is a page fault",
     FrameBeyondAsPage: "a table word that leads beyond memory is a page fault",
+    // The causes of faults. Document 02, item 4.
+    PageCausesOnly: "only page faults set the cause, and FMEM leaves it",
+    UnpagedKeepsCause: "with paging off a refused access leaves the cause",
+    PdirKeepsCause: "PDIR's own fault leaves the cause",
+    FirstCauseStays: "a cause is never replaced",
+    HitForgetsCause: "an entry that serves sets the cause back",
+    WalkForgetsCause: "a walk that refuses nothing sets the cause back",
+    FetchStopForgetsCause: "a stop with 2 or 3 at a fetch undoes the cause",
+    CauseLastsARun: "a run begins without a cause",
+    UserCauseByTable: "no user right is named only if the table word lacks U",
+    UserCauseByDirectory: "no user right is named only if the directory word lacks U",
+    WriteCauseByTable: "no write right is named only if the table word lacks W",
+    WriteCauseByDirectory: "no write right is named only if the directory word lacks W",
+    UserCauseInKernel: "a missing U is named in kernel mode too",
+    WriteCauseInReads: "a missing W is named in reads and fetches too",
+    EntryRefuses: "an entry without the right refuses, and nothing is walked",
+    EntryNames: "where a walk refuses, an entry without the right names the cause",
+    LvadGivesCause: "LVAD gives the cause",
+    FrameHoldsCause: "a frame has the cause after its code",
     // Opcodes.
     BinIllegal: "BIN is illegal",
     NetworkNops: "0xb3 to 0xbb do nothing",
@@ -201,6 +222,14 @@ mistakes! {
     WritesAsRead(u8),
     AsKernel(u8),
     FaultOwnPc(u8),
+    ForgetsCause(u8),
+    // By causes, slots of a frame, traps and stop reasons.
+    CauseNamed(Cause, Cause, Access, bool),
+    CauseOrder(Cause, Cause),
+    PdirCause(Cause),
+    SlotSetsCause(u8),
+    StopForgetsCause(Stop, Cause),
+    TrapForgetsCause(Trap, Stop),
     // By numbers of refusals and traps, bits of pages, bytes of the magic, fields of the record.
     Order(u32, u32),
     TrapCode(u32, bool),

@@ -3,8 +3,9 @@
 
 use crate::case::Case;
 use crate::expect::{play, Shown};
-use crate::families::opcode_of;
+use crate::families::{cause_of, opcode_of};
 use crate::mistake::Mistake;
+use crate::types::Cause;
 
 /// What must come out of each case, kept for all mistakes.
 pub struct Judge<'a> {
@@ -14,6 +15,8 @@ pub struct Judge<'a> {
     by_cost: Vec<usize>,
     /// The same in which an opcode is executed, by opcode.
     executing: Vec<Vec<usize>>,
+    /// The same in which an access is refused, by cause.
+    refusing: Vec<Vec<usize>>,
 }
 
 impl<'a> Judge<'a> {
@@ -28,8 +31,12 @@ impl<'a> Judge<'a> {
         };
         let with = |code| by_cost.iter().copied().filter(|number| executes(number, code)).collect();
         let executing = (0..=255).map(with).collect();
+        let refuses = |number: &usize, cause: Cause| played[*number].coverage.causes.came(cause);
+        let refused =
+            |cause| by_cost.iter().copied().filter(|number| refuses(number, cause)).collect();
+        let refusing = Cause::ALL.into_iter().map(refused).collect();
         let shown = played.into_iter().map(|played| played.shown).collect();
-        Judge { cases, shown, by_cost, executing }
+        Judge { cases, shown, by_cost, executing, refusing }
     }
 
     /// Whether this case tells the mistake apart.
@@ -39,9 +46,10 @@ impl<'a> Judge<'a> {
 
     /// The cheapest case that tells the mistake apart.
     pub fn telling(&self, mistake: Mistake) -> Option<usize> {
-        let candidates = match opcode_of(mistake) {
-            Some(code) => &self.executing[usize::from(code)],
-            None => &self.by_cost,
+        let candidates = match (opcode_of(mistake), cause_of(mistake)) {
+            (Some(code), _) => &self.executing[usize::from(code)],
+            (None, Some(cause)) => &self.refusing[cause as usize],
+            (None, None) => &self.by_cost,
         };
         candidates.iter().copied().find(|number| self.tells(*number, mistake))
     }

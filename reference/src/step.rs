@@ -1,4 +1,5 @@
-//! One step. Document 01, "One step"; document 02, item 1, on the marks.
+//! One step. Document 01, "One step"; document 02, items 1 and 4, on the marks
+//! and the cause.
 
 use crate::machine::Machine;
 use crate::mistake::Mistake;
@@ -12,7 +13,9 @@ impl Machine {
         self.regs.count += 1;
         if let Some(trap) = self.clock(keys) {
             self.regs.waiting = false;
+            self.coverage.causes.raised(trap);
             self.deliver(trap, self.regs.pc);
+            self.misread_trap(trap);
         } else if !self.regs.waiting {
             self.instruction();
             self.misread_opening(&start);
@@ -22,7 +25,7 @@ impl Machine {
     }
 
     /// Fetch at pc; pc moves 4 on; execute. A faulting instruction leaves the
-    /// registers as before the fetch, save vadr.
+    /// registers as before the fetch, save vadr and cause.
     fn instruction(&mut self) {
         let before = self.regs.clone();
         let next = before.pc.wrapping_add(4);
@@ -37,13 +40,14 @@ impl Machine {
         self.regs.pc = next;
         let Err(trap) = self.execute(word) else {
             self.coverage.executed(self.opcode, &before, false);
+            self.misread_reset(Mistake::ForgetsCause(self.opcode));
             return;
         };
         self.coverage.executed(self.opcode, &before, true);
-        let vadr = self.regs.vadr;
+        let (vadr, cause) = (self.regs.vadr, self.regs.cause);
         let sp = self.pick(Mistake::FaultedPushKeepsSp, self.regs.sp, before.sp);
         let own_pc = self.misread_return(trap, word);
-        self.regs = Registers { vadr, sp, ..before };
+        self.regs = Registers { vadr, cause, sp, ..before };
         self.fault(trap, if own_pc { before.pc } else { next });
         if self.regs.stop == Stop::NoFrame {
             self.regs.pc = self.pick(Mistake::StopPcMoved, next, self.regs.pc);
@@ -91,6 +95,11 @@ impl Machine {
         }
         if self.makes(Mistake::StopForgetsVadr) && self.regs.stop == Stop::Masked {
             self.regs.vadr = start.vadr;
+        }
+        // A fetch asks for pc.
+        let fetch = self.regs.vadr == start.pc && self.makes(Mistake::FetchStopForgetsCause);
+        if fetch || self.makes(Mistake::StopForgetsCause(self.regs.stop, self.regs.cause)) {
+            self.regs.cause = start.cause;
         }
         self.misread_stopped_marks(start);
     }

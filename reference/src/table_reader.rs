@@ -1,7 +1,7 @@
 //! Demand 3's second machine: its own memory and console, a record without
 //! page buffer, the same rules. With paging on each access walks from pdir,
-//! with the same checks, faults, vadr and marks, and no entry is kept; PDIR
-//! and SPAG have nothing to empty, and refusal 3 never comes.
+//! with the same checks, faults, vadr, cause and marks, and no entry is kept;
+//! PDIR and SPAG have nothing to empty, and refusal 3 never comes.
 //!
 //! In this program it is a `Machine` whose `buffer` is `None`: `hit` finds
 //! nothing, `keep` and `empty` do nothing, `is_bad_buffer` is false.

@@ -1,9 +1,10 @@
 //! From an address to a physical address or a fault, and the walk through
-//! directory and table. Document 01, "Addresses".
+//! directory and table. Document 01, "Addresses"; document 02, item 4, on the
+//! causes.
 
 use crate::machine::Machine;
 use crate::mistake::Mistake;
-use crate::types::{Access, Entry, Origin, Trap, PAGE};
+use crate::types::{Access, Cause, Entry, Fault, Origin, Trap, PAGE};
 use crate::words;
 
 /// Bits of directory and table words.
@@ -14,39 +15,51 @@ pub const A: u32 = 0x20;
 pub const D: u32 = 0x40;
 
 /// The frame address in a directory or table word.
-const FRAME: u32 = !(PAGE - 1);
+pub const FRAME: u32 = !(PAGE - 1);
 
-fn page_fault(access: Access) -> Trap {
-    match access {
+/// Without P or a right: the access's page fault.
+pub fn page_fault(access: Access, cause: Cause) -> Fault {
+    let trap = match access {
         Access::Fetch => Trap::Fipage,
         Access::Read => Trap::Frpage,
         Access::Write => Trap::Fwpage,
-    }
+    };
+    Fault { trap, cause }
+}
+
+/// Beyond memory.
+fn memory_fault(cause: Cause) -> Fault {
+    Fault { trap: Trap::Fmem, cause }
 }
 
 impl Machine {
-    /// A physical address, or the fault's trap. The mode is told, since trap
-    /// frames are written for the kernel; vadr is left to the caller, since a
-    /// refused frame slot doesn't set it.
-    pub fn translate(&mut self, address: u32, access: Access, user: bool) -> Result<u32, Trap> {
+    /// A physical address or a fault, with the first cause in the order of the
+    /// checks. The mode is told, since trap frames are written for the kernel;
+    /// vadr and cause are left to the caller, since a refused frame slot sets
+    /// neither.
+    pub fn translate(&mut self, address: u32, access: Access, user: bool) -> Result<u32, Fault> {
         if !self.regs.paging {
             return self.translate_unpaged(address);
         }
         let offset = address % PAGE;
         if let Some(frame) = self.hit(address / PAGE, access, user) {
+            self.misread_reset(Mistake::HitForgetsCause);
             return Ok(frame * PAGE + offset);
         }
+        self.misread_entry(address / PAGE, access, user)?;
         let answer = self.walk(address, access, user);
         self.coverage.walk(access, user, answer.is_ok());
         if answer.is_err() {
             self.misread_fault(address / PAGE);
+        } else {
+            self.misread_reset(Mistake::WalkForgetsCause);
         }
         Ok(answer? + offset)
     }
 
-    fn translate_unpaged(&mut self, address: u32) -> Result<u32, Trap> {
+    fn translate_unpaged(&mut self, address: u32) -> Result<u32, Fault> {
         if address >= self.memory_size() {
-            return Err(Trap::Fmem);
+            return Err(memory_fault(Cause::AddressBeyond));
         }
         if self.makes(Mistake::BuffersUnpaged) {
             let page = address / PAGE;
@@ -56,32 +69,20 @@ impl Machine {
     }
 
     /// The frame address for a page without a usable entry, and the entry kept.
-    fn walk(&mut self, address: u32, access: Access, user: bool) -> Result<u32, Trap> {
+    fn walk(&mut self, address: u32, access: Access, user: bool) -> Result<u32, Fault> {
         let page = self.misread_page(address / PAGE);
         let directory_at = self.regs.pdir + 4 * (page >> 10);
-        let directory = words::get(&self.memory, directory_at, 4);
-        if !self.present(directory) {
-            return Err(page_fault(access));
-        }
-        let late = self.makes(Mistake::DirectoryMarkLate);
-        if !late {
-            let dirty = access == Access::Write && self.makes(Mistake::DirectoryDirty);
-            self.mark(directory_at, if dirty { A | D } else { A });
-        }
-        if directory & FRAME >= self.memory_size() {
-            let fault = page_fault(access);
-            return Err(self.pick(Mistake::DirectoryBeyondAsPage, fault, Trap::Fmem));
-        }
+        let directory = self.walk_directory(directory_at, access)?;
         // Read after the mark: a self-mapped directory word is its own table word.
         let table_at = (directory & FRAME) + 4 * (page & 0x3ff);
         let table = self.misread_frame(words::get(&self.memory, table_at, 4));
-        if !self.permits(directory, table, access, user) {
+        if let Some(cause) = self.denial(directory, table, access, user) {
             if table & P != 0 && self.makes(Mistake::TableMarkOnFault) {
                 self.mark(table_at, A);
             }
-            return Err(page_fault(access));
+            return Err(page_fault(access, cause));
         }
-        if late {
+        if self.makes(Mistake::DirectoryMarkLate) {
             self.mark(directory_at, A);
         }
         let marks = if access == Access::Write { A | D } else { A };
@@ -90,11 +91,31 @@ impl Machine {
             self.mark(table_at, marks);
         }
         if beyond {
-            return Err(self.pick(Mistake::FrameBeyondAsPage, page_fault(access), Trap::Fmem));
+            let cause = Cause::FrameBeyond;
+            let planted = page_fault(access, cause);
+            return Err(self.pick(Mistake::FrameBeyondAsPage, planted, memory_fault(cause)));
         }
         let origin = Origin { directory: directory_at, table: table_at };
         self.keep_walked(address / PAGE, access, [directory, table | marks], origin);
         Ok(table & FRAME)
+    }
+
+    /// The directory word: present, marked, and its frame, the table, in memory.
+    fn walk_directory(&mut self, at: u32, access: Access) -> Result<u32, Fault> {
+        let directory = words::get(&self.memory, at, 4);
+        if !self.present(directory) {
+            return Err(page_fault(access, Cause::DirectoryAbsent));
+        }
+        if !self.makes(Mistake::DirectoryMarkLate) {
+            let dirty = access == Access::Write && self.makes(Mistake::DirectoryDirty);
+            self.mark(at, if dirty { A | D } else { A });
+        }
+        if directory & FRAME >= self.memory_size() {
+            let cause = Cause::DirectoryBeyond;
+            let planted = page_fault(access, cause);
+            return Err(self.pick(Mistake::DirectoryBeyondAsPage, planted, memory_fault(cause)));
+        }
+        Ok(directory)
     }
 
     /// Sets marks in a word of the tables. No store of demand 3's kind.
@@ -115,17 +136,24 @@ impl Machine {
         });
     }
 
-    /// Present; in user mode U in both words; for a write W in both words.
-    fn permits(&self, directory: u32, table: u32, access: Access, user: bool) -> bool {
+    /// What is missing first of: present; in user mode U in both words; for a
+    /// write W in both words.
+    fn denial(&self, directory: u32, table: u32, access: Access, user: bool) -> Option<Cause> {
         let both = match self.mistake {
             Some(Mistake::WriteByTableOnly) => table,
             Some(Mistake::WriteByDirectoryOnly) => directory,
             _ => directory & table,
         };
         let asks_w = access == Access::Write && (user || !self.makes(Mistake::KernelIgnoresW));
-        self.present(table)
-            && (!user || self.user_right(directory, table))
-            && (!asks_w || both & W != 0)
+        if !self.present(table) {
+            Some(Cause::TableAbsent)
+        } else if user && !self.user_right(directory, table) {
+            Some(Cause::NoUserRight)
+        } else if asks_w && both & W == 0 {
+            Some(Cause::NoWriteRight)
+        } else {
+            None
+        }
     }
 
     fn present(&self, word: u32) -> bool {

@@ -1,5 +1,6 @@
 //! Traps: a fault with iena = 0 stops; delivery stores the frame and enters
-//! the kernel. Document 01, "Traps"; document 02, item 1, on the marks.
+//! the kernel. Document 01, "Traps"; document 02, items 1 and 4, on the marks
+//! and the cause.
 
 use crate::coverage::Storer;
 use crate::machine::Machine;
@@ -13,11 +14,13 @@ impl Machine {
     /// A fault or TRAP. The registers are those of before the fetch, so a stop
     /// leaves them so.
     pub fn fault(&mut self, trap: Trap, return_pc: u32) {
+        self.coverage.causes.raised(trap);
         if self.regs.iena {
             self.deliver(trap, return_pc);
         } else {
             self.regs.stop = Stop::Masked;
         }
+        self.misread_trap(trap);
     }
 
     /// Both slots are translated for kernel writing before either is stored.
@@ -26,16 +29,17 @@ impl Machine {
         let switches = user || self.makes(Mistake::KernelSetsUsp);
         let top = if switches { self.regs.ksp } else { self.regs.sp };
         let (pc_slot, code_slot) = (top.wrapping_sub(8), top.wrapping_sub(16));
-        if self.makes(Mistake::SlotsCodeFirst) && self.frame_slot(code_slot).is_none() {
+        if self.makes(Mistake::SlotsCodeFirst) && self.frame_slot(1, code_slot).is_none() {
             return;
         }
-        let Some(pc_at) = self.frame_slot(pc_slot) else { return };
+        let Some(pc_at) = self.frame_slot(0, pc_slot) else { return };
         if self.makes(Mistake::FrameSlotBySlot) {
             self.store_slot(pc_at, return_pc);
         }
-        let Some(code_at) = self.frame_slot(code_slot) else { return };
+        let Some(code_at) = self.frame_slot(1, code_slot) else { return };
         self.store_slot(pc_at, return_pc);
         self.store_slot(code_at, self.code(trap));
+        self.misread_code_slot(code_at);
         self.coverage.trap(trap, user);
         if switches {
             self.regs.usp = self.pick(Mistake::UspKept, self.regs.usp, self.regs.sp);
@@ -57,13 +61,16 @@ impl Machine {
         self.regs.timer_pending &= trap != Trap::Ftimer && !both;
     }
 
-    /// A slot's physical address; a refusal stops and doesn't set vadr.
-    fn frame_slot(&mut self, slot: u32) -> Option<u32> {
+    /// A slot's physical address; a refusal stops and sets neither vadr nor the
+    /// cause. `nth` is 0 for the pc's slot, 1 for the code's.
+    fn frame_slot(&mut self, nth: u8, slot: u32) -> Option<u32> {
         let user = self.regs.user && self.makes(Mistake::SlotsByMode);
         let answer = self.translate(slot, Access::Write, user);
-        if answer.is_err() {
+        if let Err(fault) = answer {
             self.regs.stop = Stop::NoFrame;
             self.regs.vadr = self.pick(Mistake::SlotSetsVadr, slot, self.regs.vadr);
+            let kept = self.regs.cause;
+            self.regs.cause = self.pick(Mistake::SlotSetsCause(nth), fault.cause, kept);
         }
         answer.ok().map(|physical| physical & !3)
     }

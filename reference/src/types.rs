@@ -57,6 +57,64 @@ pub enum Access {
     Write = 2,
 }
 
+impl Access {
+    pub const ALL: [Access; 3] = [Access::Fetch, Access::Read, Access::Write];
+}
+
+/// Why an access was refused, in the order of the checks: of several the first
+/// is named. The names in quotes are document 02's, item 4; its item 5 has the
+/// numbers.
+#[derive(Clone, Copy, Debug, Default, PartialEq, Eq)]
+pub enum Cause {
+    /// Nothing was refused so far: "none at first".
+    #[default]
+    None = 0,
+    /// "Address beyond memory": with paging off, and PDIR's own fault.
+    AddressBeyond = 1,
+    /// "Directory absent": the directory word lacks P.
+    DirectoryAbsent = 2,
+    /// "Directory beyond memory": the directory word's frame is not below M.
+    DirectoryBeyond = 3,
+    /// "Table absent": the table word lacks P.
+    TableAbsent = 4,
+    /// "No user right": in user mode, U is missing in either word.
+    NoUserRight = 5,
+    /// "No write right": in a write, W is missing in either word.
+    NoWriteRight = 6,
+    /// "Frame beyond memory": the table word's frame is not below M.
+    FrameBeyond = 7,
+}
+
+impl Cause {
+    pub const ALL: [Cause; 8] = [
+        Cause::None,
+        Cause::AddressBeyond,
+        Cause::DirectoryAbsent,
+        Cause::DirectoryBeyond,
+        Cause::TableAbsent,
+        Cause::NoUserRight,
+        Cause::NoWriteRight,
+        Cause::FrameBeyond,
+    ];
+
+    /// Whether such an access, in this mode, can be refused for it.
+    pub fn comes(self, access: Access, user: bool) -> bool {
+        match self {
+            Cause::None => false,
+            Cause::NoUserRight => user,
+            Cause::NoWriteRight => access == Access::Write,
+            _ => true,
+        }
+    }
+}
+
+/// What translation answers where it refuses: a trap, never without a cause.
+#[derive(Clone, Copy, Debug, PartialEq, Eq)]
+pub struct Fault {
+    pub trap: Trap,
+    pub cause: Cause,
+}
+
 /// A key of the list lent to a run.
 #[derive(Clone, Copy, Debug, PartialEq, Eq)]
 pub struct Key {
@@ -94,6 +152,9 @@ pub struct Registers {
     /// Interrupts that await delivery: document 02, item 1, calls them marks.
     pub key_pending: bool,
     pub timer_pending: bool,
+    /// Why the access at vadr was refused; set with vadr and never without it.
+    /// No program can read it.
+    pub cause: Cause,
 }
 
 /// The physical addresses of the two words a walk read.

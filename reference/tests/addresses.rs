@@ -2,15 +2,15 @@
 
 mod common;
 use common::{after, after_runs};
-use reference::types::Stop;
+use reference::types::{Cause, Stop};
 
 const KEPT: (u32, u32, bool, bool) = (0, 0, true, false);
 
-/// A case that ends with a fault while iena = 0: vadr, and words after it.
-fn faults(name: &str, vadr: u32, words: &[(u32, u32)]) {
+/// A case that ends with a fault while iena = 0: vadr, cause, and words after it.
+fn faults(name: &str, vadr: u32, cause: Cause, words: &[(u32, u32)]) {
     let after = after(name);
     assert_eq!(after.regs().stop, Stop::Masked, "{name}");
-    assert_eq!(after.regs().vadr, vadr, "{name}");
+    assert_eq!((after.regs().vadr, after.regs().cause), (vadr, cause), "{name}");
     for (at, word) in words {
         assert_eq!(after.word(*at), *word, "{name}");
     }
@@ -19,17 +19,19 @@ fn faults(name: &str, vadr: u32, words: &[(u32, u32)]) {
 
 #[test]
 fn marks_of_faulting_walks() {
-    faults("directory absent", 0x40_0003, &[(0x1004, 0)]);
-    faults("directory word without P", 0x40_0000, &[(0x1004, 0x2006)]);
-    faults("directory far beyond memory", 0x40_0000, &[(0x1004, 0xffff_f027)]);
-    faults("frame far beyond memory", 0x4002, &[(0x2010, 0xffff_f027)]);
-    faults("directory beyond memory", 0x40_0000, &[(0x1004, 0x4027)]);
-    faults("table word absent", 0x4000, &[(0x1000, 0x2027), (0x2010, 0x3006)]);
-    faults("no W in the table word", 0x3000, &[(0x200c, 0x3005)]);
-    faults("no W in the directory word", 0x40_3000, &[(0x1004, 0x2025), (0x200c, 0x3007)]);
-    faults("frame beyond, by a write", 0x4002, &[(0x2010, 0x4067)]);
-    faults("frame beyond, by a read", 0x4002, &[(0x2010, 0x4027)]);
-    faults("vadr of an odd half", 0x7003, &[(0x1000, 0x2027)]);
+    use Cause::*;
+    faults("directory absent", 0x40_0003, DirectoryAbsent, &[(0x1004, 0)]);
+    faults("directory word without P", 0x40_0000, DirectoryAbsent, &[(0x1004, 0x2006)]);
+    faults("directory far beyond memory", 0x40_0000, DirectoryBeyond, &[(0x1004, 0xffff_f027)]);
+    faults("frame far beyond memory", 0x4002, FrameBeyond, &[(0x2010, 0xffff_f027)]);
+    faults("directory beyond memory", 0x40_0000, DirectoryBeyond, &[(0x1004, 0x4027)]);
+    faults("table word absent", 0x4000, TableAbsent, &[(0x1000, 0x2027), (0x2010, 0x3006)]);
+    faults("no W in the table word", 0x3000, NoWriteRight, &[(0x200c, 0x3005)]);
+    let words = [(0x1004, 0x2025), (0x200c, 0x3007)];
+    faults("no W in the directory word", 0x40_3000, NoWriteRight, &words);
+    faults("frame beyond, by a write", 0x4002, FrameBeyond, &[(0x2010, 0x4067)]);
+    faults("frame beyond, by a read", 0x4002, FrameBeyond, &[(0x2010, 0x4027)]);
+    faults("vadr of an odd half", 0x7003, TableAbsent, &[(0x1000, 0x2027)]);
 }
 
 #[test]
@@ -56,8 +58,10 @@ fn rights_of_entries() {
     let write = after("user write");
     assert_eq!(write.entries()[1], (3, 3, true, true));
     assert_eq!(write.word(0x200c), 0x3067);
-    faults("user read without U", 0x3000, &[(0x200c, 0x3003)]);
-    faults("user read without U above", 0x40_3000, &[(0x1004, 0x2023), (0x200c, 0x3007)]);
+    let cause = Cause::NoUserRight;
+    faults("user read without U", 0x3000, cause, &[(0x200c, 0x3003)]);
+    let words = [(0x1004, 0x2023), (0x200c, 0x3007)];
+    faults("user read without U above", 0x40_3000, cause, &words);
     after("user write without W").delivered(0xe00, 24, 0x104);
     after("kernel write without W").delivered(0xf00, 8, 0x104);
 }

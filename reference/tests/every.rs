@@ -7,12 +7,14 @@ use reference::opcodes::decode::decode;
 use reference::opcodes::decode::{Arith, Base, Op, Reg, Source, Width};
 use reference::opcodes::kinds::{can_fault_in_kernel, reads, takes_imm, writes};
 use reference::opcodes::sets::{is_privileged, name_of, ILLEGAL, LEGAL, PRIVILEGED};
-use reference::types::{Registers, Stop};
+use reference::types::{Cause, Registers, Stop};
 
 #[test]
 fn every_privileged_opcode_traps_in_user_mode() {
     for code in PRIVILEGED.iter() {
-        after(&format!("user {}", name_of(*code))).delivered(0xe00, 19, 0x104);
+        let after = after(&format!("user {}", name_of(*code)));
+        after.delivered(0xe00, 19, 0x104);
+        assert_eq!((after.regs().vadr, after.regs().cause), (6, Cause::TableAbsent));
     }
 }
 
@@ -28,6 +30,7 @@ fn every_illegal_byte_traps() {
     }
 }
 
+/// vadr and cause are an older fault's, and stay.
 #[test]
 fn every_legal_opcode_completes() {
     for code in LEGAL.iter() {
@@ -39,6 +42,7 @@ fn every_legal_opcode_completes() {
             _ => Stop::Running,
         };
         assert_eq!((after.regs().stop, after.regs().count), (stop, 1), "{name}");
+        assert_eq!((after.regs().vadr, after.regs().cause), (6, Cause::TableAbsent), "{name}");
     }
 }
 
@@ -169,11 +173,9 @@ fn far_operands_of_accesses() {
         let after = after(&format!("far {name}"));
         let given = after.given.record.regs.clone();
         let vadr = (base as u32).wrapping_add(FAR as u32);
-        assert_eq!(
-            *after.regs(),
-            Registers { vadr, stop: Stop::Masked, count: 1, ..given },
-            "{name}"
-        );
+        let stopped = Registers { vadr, stop: Stop::Masked, count: 1, ..given };
+        let expected = Registers { cause: Cause::AddressBeyond, ..stopped };
+        assert_eq!(*after.regs(), expected, "{name}");
         assert!(vadr % 2 == 1 && after.memory_is_unchanged(), "{name}");
     }
 }
@@ -209,7 +211,7 @@ fn every_opcode_in_user_mode_with_paging() {
 }
 
 /// Where page 3 lacks U each is refused: by a read FRPAGE, by a write FWPAGE.
-/// MCPY reads first. Nothing changes but vadr and the marks.
+/// MCPY reads first. Nothing changes but vadr, the cause and the marks.
 #[test]
 fn every_access_in_user_mode_without_right() {
     for (name, op) in legal_with(|op| reads(op) || writes(op)) {
@@ -219,7 +221,7 @@ fn every_access_in_user_mode_without_right() {
         let regs = after.regs();
         assert_eq!((regs.a, regs.b, regs.c), (given.a, given.b, given.c), "{name}");
         assert_eq!(page_3(&after), (0x3003, None), "{name}");
-        assert_eq!(regs.vadr, address(name, op), "{name}");
+        assert_eq!((regs.vadr, regs.cause), (address(name, op), Cause::NoUserRight), "{name}");
     }
 }
 

@@ -4,7 +4,7 @@ use reference::case::decode::read_all;
 use reference::case::encode::encode;
 use reference::case::{Case, Load, Runs};
 use reference::expect::expect;
-use reference::types::{Entry, Registers, Stop};
+use reference::types::{Cause, Entry, Registers, Stop};
 use reference::worked::op;
 
 const FORMAT: &str = include_str!("../FORMAT.md");
@@ -58,6 +58,7 @@ fn every_field_comes_back() {
         written: 1 << 42,
         key_pending: true,
         timer_pending: false,
+        cause: Cause::FrameBeyond,
     };
     let mut runs = Runs::new(8192, regs)
         .bytes(100, &[1, 2, 0, 0, 3])

@@ -3,7 +3,7 @@
 
 mod common;
 use common::{after, after_runs, After};
-use reference::types::{Registers, Stop, NO_KEY};
+use reference::types::{Cause, Registers, Stop, NO_KEY};
 
 /// The key's mark and the timer's.
 fn marks(after: &After) -> (bool, bool) {
@@ -251,7 +251,8 @@ fn a_stop_with_2_keeps_the_marks() {
         is_given_but(&after(name), stopped);
     }
     let fetch = after("stop 2 at a fetch keeps the timer's mark");
-    is_given_but(&fetch, |given| Registers { vadr: 0x1000, ..stopped(given) });
+    let cause = Cause::AddressBeyond;
+    is_given_but(&fetch, |given| Registers { vadr: 0x1000, cause, ..stopped(given) });
     is_given_but(&after("stop 2 keeps the step's events"), |given| Registers {
         kbchar: 65,
         keys: 1,

@@ -7,7 +7,7 @@ use reference::case::{Case, Runs};
 use reference::coverage::{Coverage, Due};
 use reference::expect::play;
 use reference::random::scene::{case, Purpose};
-use reference::types::{MAX_BUDGET, PAGE};
+use reference::types::{Cause, MAX_BUDGET, PAGE};
 use reference::words::get;
 use std::sync::LazyLock;
 
@@ -94,5 +94,13 @@ fn marks_stand_in_every_setting() {
         let keys = count(|runs| set(runs) && runs.record.regs.key_pending);
         let timers = count(|runs| set(runs) && runs.record.regs.timer_pending);
         assert!(keys > least && timers > least, "{iena} {waiting}: {keys} and {timers}");
+    }
+}
+
+#[test]
+fn records_have_any_cause() {
+    for cause in Cause::ALL {
+        let found = count(|runs| runs.record.regs.cause == cause);
+        assert!(found > 400, "{cause:?}: {found}");
     }
 }

@@ -2,7 +2,7 @@
 
 mod common;
 use common::after;
-use reference::types::{Registers, Stop};
+use reference::types::{Cause, Registers, Stop};
 
 #[test]
 fn a_stop_with_3_on_an_interrupt_ends_waiting() {
@@ -24,15 +24,16 @@ fn a_stop_keeps_the_clocks_work() {
 }
 
 #[test]
-fn a_stop_keeps_the_faults_vadr_and_nothing_else() {
-    let masked = after("stop 2 keeps vadr");
-    let given = masked.given.record.regs.clone();
-    let expected = Registers { stop: Stop::Masked, count: 1, vadr: 0x1235, ..given };
-    assert_eq!(*masked.regs(), expected);
-    let no_frame = after("stop 3 keeps the fault's vadr");
-    let given = no_frame.given.record.regs.clone();
-    let expected = Registers { stop: Stop::NoFrame, count: 1, vadr: 0x1235, ..given };
-    assert_eq!(*no_frame.regs(), expected);
+fn a_stop_keeps_the_faults_vadr_and_cause_and_nothing_else() {
+    let cause = Cause::AddressBeyond;
+    for (name, stop) in
+        [("stop 2 keeps vadr", Stop::Masked), ("stop 3 keeps the fault's vadr", Stop::NoFrame)]
+    {
+        let after = after(name);
+        let given = after.given.record.regs.clone();
+        let expected = Registers { stop, count: 1, vadr: 0x1235, cause, ..given };
+        assert_eq!(*after.regs(), expected, "{name}");
+    }
 }
 
 #[test]
@@ -177,7 +178,8 @@ fn returns_from_traps() {
 fn a_return_reads_the_code_first() {
     let after = after("RTI across a page's end");
     let given = after.given.record.regs.clone();
-    let expected = Registers { stop: Stop::Masked, count: 1, vadr: 0x4000, ..given };
+    let cause = Cause::TableAbsent;
+    let expected = Registers { stop: Stop::Masked, count: 1, vadr: 0x4000, cause, ..given };
     assert_eq!(*after.regs(), expected);
     assert_eq!(after.word(0x200c), 0x3027);
     assert_eq!(after.entries(), [(0, 0, true, false), (3, 3, true, false)]);

@@ -1,7 +1,7 @@
 //! The record's numbers in the order of FORMAT.md, in a case and in a line
-//! alike. A further field is appended to this list, and to `Registers`.
+//! alike. A further field of `Registers` gets its place in this list.
 
-use crate::types::{Registers, Stop};
+use crate::types::{Cause, Registers, Stop};
 
 /// Keys taken and console bytes written stand apart, since they belong to what
 /// is lent; so does the page buffer.
@@ -27,7 +27,7 @@ macro_rules! numbers {
 
 numbers! {
     a, b, c, sp, usp, ksp, pc, ivec, pdir, vadr, timer, timeout, kbchar,
-    user, iena, paging, waiting, key_pending, timer_pending, stop, count,
+    user, iena, paging, waiting, key_pending, timer_pending, stop, cause, count,
 }
 
 /// A field as a number, and back.
@@ -69,5 +69,14 @@ impl Field for Stop {
     }
     fn field(number: u64) -> Option<Stop> {
         Stop::ALL.get(usize::try_from(number).ok()?).copied()
+    }
+}
+
+impl Field for Cause {
+    fn number(&self) -> u64 {
+        *self as u64
+    }
+    fn field(number: u64) -> Option<Cause> {
+        Cause::ALL.get(usize::try_from(number).ok()?).copied()
     }
 }

@@ -1,12 +1,12 @@
 //! What runs have reached, counted: a comparison that covers nothing of a kind
 //! shows nothing about it.
 
+mod causes;
 mod marks;
+mod opcodes;
 
-use crate::opcodes::decode::decode;
-use crate::opcodes::kinds::can_fault_in_kernel;
-use crate::opcodes::sets::{is_legal, is_privileged, name_of};
 use crate::types::{Access, Registers, Stop, Trap};
+use causes::Causes;
 use marks::Marks;
 use std::fmt::Arguments;
 
@@ -65,6 +65,7 @@ pub struct Coverage {
     /// Stores of demand 3's kind, by storer.
     pub held_stores: [u64; 2],
     marks: Marks,
+    pub causes: Causes,
     /// Walks of the step so far.
     walks_now: usize,
 }
@@ -89,6 +90,7 @@ impl Default for Coverage {
             load_answers: [0; 12],
             held_stores: [0; 2],
             marks: Marks::default(),
+            causes: Causes::default(),
             walks_now: 0,
         }
     }
@@ -100,8 +102,6 @@ fn sum(mine: &mut [u64], theirs: &[u64]) {
 
 const ACCESSES: [&str; 3] = ["fetch", "read", "write"];
 const MODES: [&str; 2] = ["kernel", "user"];
-const PAGING: [&str; 2] = ["paging off", "paging on"];
-const ENDS: [&str; 2] = ["completed", "faulted"];
 const STOPS: [&str; 4] = ["running", "halted", "trap masked", "no frame"];
 const STORERS: [&str; 2] = ["instructions", "frames"];
 const EMPTIERS: [&str; 3] = ["64 held", "PDIR", "SPAG"];
@@ -131,6 +131,7 @@ impl Coverage {
     /// A step, by the registers before and after it.
     pub fn step(&mut self, before: &Registers, after: &Registers) {
         self.marks.step(before, after);
+        self.causes.step(before, after);
         self.walks[self.walks_now] += 1;
         self.walks_now = 0;
     }
@@ -168,17 +169,12 @@ impl Coverage {
         sum(&mut self.load_answers, &other.load_answers);
         sum(&mut self.held_stores, &other.held_stores);
         self.marks.add(&other.marks);
+        self.causes.add(&other.causes);
     }
 }
 
 /// Telling.
 impl Coverage {
-    /// How often an opcode ended so.
-    pub fn ended(&self, code: u8, faulted: bool) -> u64 {
-        let settings = self.opcodes[usize::from(code)].as_flattened();
-        settings.iter().map(|ends| ends[usize::from(faulted)]).sum()
-    }
-
     /// The kinds that must be reached, those in bulk too if asked for, and were
     /// not. Answer 3 can't come from an empty buffer, so that answers of runs
     /// are asked for by number.
@@ -248,6 +244,7 @@ impl Coverage {
             visit(name, *count, Due::Always);
         }
         self.marks.visit(&mut visit);
+        self.causes.visit(&mut visit);
     }
 
     /// Hits, walks and entries.
@@ -268,32 +265,5 @@ impl Coverage {
         for (count, name) in self.emptied.iter().zip(EMPTIERS) {
             visit(format_args!("buffer emptied, {name}"), *count, Due::Always);
         }
-    }
-
-    /// How an opcode ended, at all and by setting.
-    fn each_end(&self, code: u8, visit: &mut impl FnMut(Arguments, u64, Due)) {
-        let name = name_of(code);
-        for (at, end) in ENDS.iter().enumerate() {
-            let comes = |user: bool| comes(code, user, at == 1);
-            let due = if comes(false) || comes(true) { Due::Always } else { Due::Never };
-            visit(format_args!("{code:02x} {name} {end}"), self.ended(code, at == 1), due);
-            for (by, mode) in MODES.iter().enumerate() {
-                let due = if comes(by == 1) { Due::InBulk } else { Due::Never };
-                for (on, paging) in PAGING.iter().enumerate() {
-                    let count = self.opcodes[usize::from(code)][by][on][at];
-                    visit(format_args!("{code:02x} {name}, {mode}, {paging}, {end}"), count, due);
-                }
-            }
-        }
-    }
-}
-
-/// Whether an opcode can complete, or fault, in a mode. TRAP never completes.
-fn comes(code: u8, user: bool, faulted: bool) -> bool {
-    let closed = user && is_privileged(code);
-    if faulted {
-        closed || decode(code).is_none_or(can_fault_in_kernel)
-    } else {
-        is_legal(code) && name_of(code) != "TRAP" && !closed
     }
 }

@@ -6,7 +6,7 @@ use crate::case::Runs;
 use crate::opcodes::decode::{decode, Cond, Op, Source};
 use crate::opcodes::kinds::{can_fault_in_kernel, reads, takes_imm, writes};
 use crate::opcodes::sets::{is_privileged, name_of, ILLEGAL, LEGAL, PRIVILEGED};
-use crate::types::Registers;
+use crate::types::{Cause, Registers};
 use crate::words::instruction;
 use crate::worked::op;
 
@@ -15,9 +15,11 @@ pub const FAR: i32 = -0x5_2345;
 /// Where data stands in page 3, for accesses and for sp.
 pub const DATA: u32 = 0x3240;
 
-/// Registers that lead every opcode's access into the pattern.
+/// Registers that lead every opcode's access into the pattern, after an access
+/// that was refused.
 fn ready() -> Registers {
-    Registers { a: 0x241, b: 0x253, c: 3, sp: 0x260, kbchar: 5, vadr: 6, ..kernel() }
+    let cause = Cause::TableAbsent;
+    Registers { a: 0x241, b: 0x253, c: 3, sp: 0x260, kbchar: 5, vadr: 6, cause, ..kernel() }
 }
 
 fn pattern() -> Vec<u8> {

@@ -5,7 +5,7 @@ use crate::machine::Machine;
 use crate::mistake::Mistake;
 use crate::opcodes::decode::System;
 use crate::trap::USER_MARK;
-use crate::types::{Stop, Trap, NO_KEY, PAGE};
+use crate::types::{Cause, Stop, Trap, NO_KEY, PAGE};
 
 impl Machine {
     pub fn system(&mut self, system: System, imm: u32) -> Result<(), Trap> {
@@ -34,7 +34,8 @@ impl Machine {
             System::Ivec => self.regs.ivec = self.target(self.regs.a),
             System::Time => self.time(imm),
             System::Lvad => {
-                self.regs.a = self.regs.vadr;
+                let cause = self.regs.cause as u32;
+                self.regs.a = self.pick(Mistake::LvadGivesCause, cause, self.regs.vadr);
                 self.regs.vadr = self.pick(Mistake::LvadResets, 0, self.regs.vadr);
             }
             System::Msiz => {
@@ -77,11 +78,13 @@ impl Machine {
         }
     }
 
-    /// a not below M is FMEM with vadr = a; low twelve bits drop.
+    /// a not below M is FMEM with vadr = a, and "PDIR's own fault counts as
+    /// address beyond memory"; low twelve bits drop.
     fn set_pdir(&mut self) -> Result<(), Trap> {
         let unaligned = self.regs.a % PAGE != 0 && self.makes(Mistake::PdirAsksAlignment);
         if self.regs.a >= self.memory_size() || unaligned {
-            self.regs.vadr = self.regs.a;
+            self.coverage.causes.refused_pdir();
+            self.refuse(self.regs.a, self.misnamed_pdir(Cause::AddressBeyond));
             if self.makes(Mistake::PdirFaultEmpties) {
                 self.empty(Emptied::Pdir);
             }

@@ -3,7 +3,7 @@
 use super::rng::Rng;
 use super::space::{Space, HANDLER, PROGRAM, STACK_TOP};
 use super::values::{number, step_count};
-use crate::types::{Buffer, Entry, Registers, Stop, CAPACITY, NO_KEY, PAGE};
+use crate::types::{Buffer, Cause, Entry, Registers, Stop, CAPACITY, NO_KEY, PAGE};
 
 pub fn registers(rng: &mut Rng, space: &Space, paging: bool) -> Registers {
     let [a, b] = [0; 2].map(|_| {
@@ -40,6 +40,7 @@ pub fn registers(rng: &mut Rng, space: &Space, paging: bool) -> Registers {
         written: 0,
         key_pending: rng.percent(15),
         timer_pending: rng.percent(15),
+        cause: rng.pick(&Cause::ALL),
     }
 }
 
