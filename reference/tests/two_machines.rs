@@ -8,6 +8,7 @@ use reference::coverage::{Coverage, Due};
 use reference::directed;
 use reference::mistake::Mistake;
 use reference::random::scene::{case, Purpose};
+use reference::types::{Cause, Stop, Trap};
 
 const LISTS: u64 = 30_000;
 const SEED: u64 = 3;
@@ -83,8 +84,26 @@ fn mistakes_in_the_marks_are_found() {
     }
 }
 
-/// These change only which entries are held, and the comparison rightly
-/// doesn't see them: the stored cases do.
+/// The cause is compared, and shows nowhere else.
+#[test]
+fn mistakes_in_the_causes_are_found() {
+    for mistake in [
+        Mistake::PageCausesOnly,
+        Mistake::FirstCauseStays,
+        Mistake::HitForgetsCause,
+        Mistake::UserCauseByTable,
+        Mistake::WriteCauseInReads,
+        Mistake::CauseOrder(Cause::NoUserRight, Cause::NoWriteRight),
+        Mistake::SlotSetsCause(1),
+        Mistake::StopForgetsCause(Stop::NoFrame, Cause::FrameBeyond),
+        Mistake::TrapForgetsCause(Trap::Farith, Stop::Running),
+    ] {
+        assert!(first_difference(with(mistake)).is_some(), "{mistake:?}");
+    }
+}
+
+/// These change only which entries are held, or show by stale ones alone, and
+/// the comparison rightly doesn't see them: the stored cases do.
 #[test]
 fn the_comparison_does_not_see_which_entries_are_held() {
     for mistake in [
@@ -94,6 +113,8 @@ fn the_comparison_does_not_see_which_entries_are_held() {
         Mistake::PdirFaultEmpties,
         // Paging only comes on by SPAG, which empties the buffer.
         Mistake::BuffersUnpaged,
+        // What an entry lacks, but for D, the words that it was read from lack.
+        Mistake::EntryNames,
     ] {
         let mut coverage = Coverage::default();
         for number in 0..LISTS / 20 {

@@ -2,6 +2,7 @@
 //! opcode, every refusal. What must come of them stands in `tests/`.
 
 pub mod addresses;
+pub mod causes;
 pub mod clock;
 pub mod division;
 pub mod every;
@@ -27,6 +28,7 @@ pub fn all() -> Vec<Named> {
         .chain(named(clock::cases()))
         .chain(named(marks::cases()))
         .chain(named(addresses::cases()))
+        .chain(causes::cases())
         .chain(named(opcodes::cases()))
         .chain(named(tables::cases()))
         .chain(division::cases())
