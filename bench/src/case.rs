@@ -20,7 +20,7 @@ pub const RUN_PACKED: u32 = 2;
 pub const SINGLE_STEP: u32 = 4;
 const ALL: [u32; 3] = [1, RUN_PACKED, SINGLE_STEP];
 
-/// The record's numbers in the order of the format. A further field is appended here, and to `Machine`.
+/// The record's numbers in the order of the format. A further field of `Machine` gets its place here.
 macro_rules! numbers {
     ($($name:ident: $type:ident,)*) => {
         const NUMBERS: usize = [$(stringify!($name),)*].len();
@@ -41,7 +41,7 @@ macro_rules! numbers {
 
 numbers! {
     a: word, b: word, c: word, sp: word, usp: word, ksp: word, pc: word, ivec: word, pdir: word, vadr: word, timer: word, timeout: word, kbchar: word,
-    user: flag, iena: flag, paging: flag, waiting: flag, key_pending: flag, timer_pending: flag, stop: word, count: long,
+    user: flag, iena: flag, paging: flag, waiting: flag, key_pending: flag, timer_pending: flag, stop: word, cause: word, count: long,
 }
 
 /// Memory is written in chunks of this many bytes, but for those that are all zero.

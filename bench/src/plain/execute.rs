@@ -280,7 +280,7 @@ impl Machine {
                     0xa4 => self.ivec = a & !3,
                     0xa5 => {
                         if a as usize >= self.memory.len() {
-                            return Err(Fault::At(0, a));
+                            return Err(Fault::At(0, 1, a));
                         }
                         self.pdir = a & !0xFFF;
                         self.held = 0

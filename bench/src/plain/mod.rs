@@ -1,4 +1,4 @@
-//! A plain, idiomatic interpreter of the rules of document 01 with item 1 of document 02: `&mut self` methods, a match on the opcode byte,
+//! A plain, idiomatic interpreter of the rules of document 01 with items 1 and 4 of document 02: `&mut self` methods, a match on the opcode byte,
 //! `Result` and `?`, slices with bounds checks, one byte at a time for block opcodes.
 
 mod execute;
@@ -22,10 +22,10 @@ pub struct Entry {
     pub write: bool,
 }
 
-/// A fault: its code, and the address asked where it has one.
+/// A fault: its code, and where an access was refused the cause and the address asked.
 enum Fault {
     Code(u32),
-    At(u32, u32),
+    At(u32, u32, u32),
 }
 
 pub struct Key {
@@ -53,6 +53,8 @@ pub struct Machine {
     pub paging: bool,
     pub waiting: bool,
     pub stop: u32,
+    /// Why the access at vadr was refused: 0 none, then document 02's order.
+    pub cause: u32,
     pub count: u64,
     /// Interrupts that await delivery: document 02 calls them marks.
     pub key_pending: bool,
@@ -94,6 +96,7 @@ impl Machine {
             paging: false,
             waiting: false,
             stop: 0,
+            cause: 0,
             count: 0,
             key_pending: false,
             timer_pending: false,
@@ -167,8 +170,9 @@ impl Machine {
     fn trap(&mut self, fault: Fault, pc: u32) {
         let code = match fault {
             Fault::Code(code) => code,
-            Fault::At(code, address) => {
+            Fault::At(code, cause, address) => {
                 self.vadr = address;
+                self.cause = cause;
                 code
             }
         };

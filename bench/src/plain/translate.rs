@@ -9,6 +9,17 @@ pub(super) enum Access {
     Read,
 }
 
+impl Access {
+    /// The code of its page fault.
+    fn page_fault(self) -> u32 {
+        match self {
+            Access::Fetch => 7,
+            Access::Write => 8,
+            Access::Read => 9,
+        }
+    }
+}
+
 impl Machine {
     pub(super) fn word(&self, at: usize) -> u32 {
         u32::from_le_bytes(self.memory[at..at + 4].try_into().unwrap())
@@ -28,7 +39,7 @@ impl Machine {
             return if (va as usize) < self.memory.len() {
                 Ok(va as usize)
             } else {
-                Err(Fault::At(0, va))
+                Err(Fault::At(0, 1, va))
             };
         }
         if let Some(entry) = self.entries[..self.held].iter().find(|entry| entry.page == va >> 12) {
@@ -40,33 +51,35 @@ impl Machine {
     }
 
     fn walk(&mut self, va: u32, access: Access, user: bool) -> Result<usize, Fault> {
-        let page_fault = match access {
-            Access::Fetch => 7,
-            Access::Write => 8,
-            Access::Read => 9,
-        };
+        let page_fault = access.page_fault();
         let directory_at = (self.pdir + 4 * (va >> 22)) as usize;
         let directory = self.word(directory_at);
         if directory & 1 == 0 {
-            return Err(Fault::At(page_fault, va));
+            return Err(Fault::At(page_fault, 2, va));
         }
         self.put_word(directory_at, directory | 0x20);
         let frame = (directory & !0xFFF) as usize;
         if frame >= self.memory.len() {
-            return Err(Fault::At(0, va));
+            return Err(Fault::At(0, 3, va));
         }
         let table_at = frame + (4 * ((va >> 12) & 0x3FF)) as usize;
         let table = self.word(table_at);
         let both = table & directory;
         let write = access == Access::Write;
-        if table & 1 == 0 || (user && both & 4 == 0) || (write && both & 2 == 0) {
-            return Err(Fault::At(page_fault, va));
+        if table & 1 == 0 {
+            return Err(Fault::At(page_fault, 4, va));
+        }
+        if user && both & 4 == 0 {
+            return Err(Fault::At(page_fault, 5, va));
+        }
+        if write && both & 2 == 0 {
+            return Err(Fault::At(page_fault, 6, va));
         }
         let marked = if write { table | 0x60 } else { table | 0x20 };
         self.put_word(table_at, marked);
         let frame = table & !0xFFF;
         if frame as usize >= self.memory.len() {
-            return Err(Fault::At(0, va));
+            return Err(Fault::At(0, 7, va));
         }
         self.keep(Entry {
             page: va >> 12,
