@@ -29,7 +29,7 @@ pub fn formed(holds: bool) -> Judged {
     Judged::Malformed
 }
 
-// The largest value of the i-th number of the record: words, flags and marks, the stop reason, the step count.
+// The largest value of the i-th number of the record: words, flags and marks, the stop reason, the cause, the step count.
 fn most(i: usize) -> u64 {
     if i < 13 {
         return 0xFFFF_FFFF;
@@ -39,6 +39,9 @@ fn most(i: usize) -> u64 {
     }
     if i < 20 {
         return 3;
+    }
+    if i < 21 {
+        return 7;
     }
     0xFFFF_FFFF_FFFF_FFFF
 }

@@ -6,6 +6,7 @@ use mathlib.Core.List.{List, []}
 use lib.ListN.{length}
 use Rattle.paging.specs.declared.Entry.{Entry}
 use Rattle.paging.specs.declared.Space.{Space}
+use Rattle.paging.specs.declared.Cause.the-variants.{AddressBeyondMemory}
 use Rattle.paging.specs.declared.Fault.{Fault}
 use Rattle.paging.specs.declared.Answer.{Answer}
 use Rattle.paging.specs.declared.Answer.the-variants.{At, Denied}
@@ -32,7 +33,7 @@ abbrev pub bad : Regs → End → Done
 bad r e = record { regs = r; end = e }
 
 abbrev pub faultOf : Answer → Fault
-faultOf (At p) = record { code = 0; address = 0 }
+faultOf (At p) = record { code = 0; cause = AddressBeyondMemory; address = 0 }
 faultOf (Denied f) = f
 
 -- an operand access that was denied

@@ -4,6 +4,7 @@ ghost use Rattle.rules.specs.Record.{withA, withB, withC, withSp, withPc};
 ghost use Rattle.contracts.specs.Contract.{ok, bad, faultOf, refusedBy};
 use decode::SysOp;
 use paging::Answer;
+use paging::Cause;
 use paging::Fault;
 use rules::Regs;
 
@@ -12,7 +13,7 @@ pub enum End {
     // The fetch was denied.
     Unfetched(Fault),
     // A fault without an address, or TRAP.
-    Trap(u32),
+    Trap(u16),
     // An operand access was denied.
     Refused(Fault),
     // A privileged instruction, handled over the whole record.
@@ -61,6 +62,7 @@ pub fn fault_of(a: Answer) -> Fault
     match a {
         Answer::At(_) => Fault {
             code: 0,
+            cause: Cause::AddressBeyondMemory,
             address: 0,
         },
         Answer::Denied(f) => f,
@@ -72,10 +74,12 @@ pub fn refused(r: Regs, a: Answer) -> Done
     ensures { λ d. ⌜ d ≡ refusedBy r a ⌝ }
 {
     let f = fault_of(a);
+    let cause = f.cause;
     Done {
         regs: r,
         end: End::Refused(Fault {
             code: f.code,
+            cause,
             address: f.address,
         }),
     }

@@ -10,6 +10,7 @@ use paging::Entry;
 use paging::Space;
 use rules::Clock;
 use rules::Cpu;
+use rules::LastCause;
 use rules::Machine;
 use rules::Pending;
 use rules::Regs;
@@ -58,6 +59,7 @@ pub fn cpu_with(sp: u32, pc: u32, kbchar: u32) -> Cpu
             iena: false,
             waiting: false,
         },
+        cause: LastCause::None,
         stop: Stop::Running,
         written: 0,
     }

@@ -16,6 +16,7 @@ use Rattle.paging.specs.declared.Access.{Access}
 use Rattle.paging.specs.declared.Entry.{Entry}
 use Rattle.paging.specs.declared.Answer.{Answer}
 use Rattle.paging.specs.declared.Answer.the-variants.{At, Denied}
+use Rattle.paging.specs.declared.Cause.the-variants.{AddressBeyondMemory}
 use Rattle.paging.specs.Walk.{Found, fault, found}
 use Rattle.paging.specs.Buffer.{hit, bufferOk}
 use Rattle.paging.specs.Translate.{pageOf, inFrame, denied, direct, answerOf, refilled, pagedBy, paged, translateBy}
@@ -46,7 +47,7 @@ module _ (k : Access) (s : Size) (a : ℕ) (u : Bool) (m : List ℕ) (whole : le
 
   found-within : (r : Found) → FrameIn (length m) r → Within (length m) (bytes s) (answerOf (request k s a u) r)
   unfolding answerOf FrameIn Within
-  found-within (fault c) h = tt
+  found-within (fault code cause) h = tt
   found-within (found f us w da ta) h = frame-within f h
 
   paged-within : (pdir : ℕ) (es : List Entry) (o : Option ℕ) → ((f : ℕ) → o ≡ some f → f < length m / 4096)
@@ -59,7 +60,7 @@ module _ (k : Access) (s : Size) (a : ℕ) (u : Bool) (m : List ℕ) (whole : le
   unfolding direct Within
   direct-within = go (ltb a (length m)) refl
     where
-      go : (b : Bool) → ltb a (length m) ≡ b → Within (length m) (bytes s) (if b then At (cut (bytes s) a) else denied 0 (request k s a u))
+      go : (b : Bool) → ltb a (length m) ≡ b → Within (length m) (bytes s) (if b then At (cut (bytes s) a) else denied 0 AddressBeyondMemory (request k s a u))
       go true e = cut-below s a (length m) whole (ltb-true _ _ e)
       go false e = tt
 

@@ -13,6 +13,8 @@ use Rattle.memory.specs.Memory.{bytes}
 use Rattle.paging.specs.declared.Access.{Access}
 use Rattle.paging.specs.declared.Entry.{Entry}
 use Rattle.paging.specs.declared.Answer.{Answer}
+use Rattle.paging.specs.declared.Cause.{Cause}
+use Rattle.paging.specs.declared.Cause.the-variants.{AddressBeyondMemory}
 use Rattle.paging.specs.declared.Space.{Space}
 use Rattle.paging.specs.declared.Answer.the-variants.{At}
 use Rattle.paging.specs.TrapCode.{FMEM}
@@ -39,25 +41,25 @@ page-is a h = omega arith
 
 abbrev answerFor : Request → PageWalk → Answer
 answerFor q (Mapped f u w) = inFrame f q
-answerFor q (Faulted c) = denied c q
+answerFor q (Faulted code cause) = denied code cause q
 
 abbrev keptFor : ℕ → List Entry → PageWalk → List Entry
 keptFor p es (Mapped f u w) = keep (entry p f u w) es
-keptFor p es (Faulted c) = es
+keptFor p es (Faulted code cause) = es
 
 answer-found : (q : Request) (r : Found) → answerFor q (foundBy r) ≡ answerOf q r
 unfolding foundBy answerOf
-answer-found q (fault c) = refl
+answer-found q (fault code cause) = refl
 answer-found q (found f u w da ta) = refl
 
 kept-found : (p : ℕ) (es : List Entry) (r : Found) → keptFor p es (foundBy r) ≡ afterWalk p es r
 unfolding foundBy afterWalk
-kept-found p es (fault c) = refl
+kept-found p es (fault code cause) = refl
 kept-found p es (found f u w da ta) = refl
 
 frame-found : (n : ℕ) (r : Found) {f : ℕ} {u w : Bool} → foundBy r ≡ Mapped f u w → FrameIn n r → f < n / 4096
 unfolding foundBy FrameIn
-frame-found n (fault c) e h = absurd (let z : _≡_ {A = ℕ} 0 1 = cc in omega arith)
+frame-found n (fault code cause) e h = absurd (let z : _≡_ {A = ℕ} 0 1 = cc in omega arith)
 frame-found n (found f′ u′ w′ da ta) {f} e h = let q : f′ ≡ f = cc in rw (← q) h
 
 -- a frame that a walk found has a number of fifteen bits
@@ -87,7 +89,7 @@ module _ (pdir : ℕ) (q : Request) (m l : List ℕ) (g : Good (length m) pdir l
       → (entriesIn l′ ≡ keep (unpack e) (entriesIn l)) × Buffer l′ → at ≡ f * 4096 + cut (q .size) (q .addr) % 4096 → Refills pdir q m l (At at) m′ l′
   refill-mapped e d k h a = record { same = rw (h .0, k, a) (rw d at refill-by); buffer = h .1 }
 
-  pub refill-faulted : {c : ℕ} {a : Answer} → r ≡ Faulted c → a ≡ denied c q → Refills pdir q m l a m′ l
+  pub refill-faulted : {code : ℕ} {cause : Cause} {a : Answer} → r ≡ Faulted code cause → a ≡ denied code cause q → Refills pdir q m l a m′ l
   refill-faulted e d = record { same = rw d (rw e at refill-by); buffer = g .buffer }
 
 -- ---- a hit, and a miss
@@ -115,7 +117,7 @@ module _ (s : Space) (q : Request) (m l : List ℕ) (g : Good (length m) (s .pdi
   unfolding translateBy direct
   translate-at off h e = record { same = rw (off, lt-ltb _ _ h, e); good = g }
 
-  pub translate-beyond : {a : Answer} → s .paging ≡ false → length m ≤ q .addr → a ≡ denied FMEM q → Translates s q m l a m l
+  pub translate-beyond : {a : Answer} → s .paging ≡ false → length m ≤ q .addr → a ≡ denied FMEM AddressBeyondMemory q → Translates s q m l a m l
   unfolding translateBy direct
   translate-beyond off h d = record { same = rw (off, le-ltb _ _ h, d); good = g }
 

@@ -12,6 +12,7 @@ use buffer::Hit;
 use memory::Size;
 use paging::Access;
 use paging::Answer;
+use paging::Cause;
 use paging::Fault;
 use paging::Space;
 use walk::PageWalk;
@@ -34,12 +35,13 @@ fn in_frame(frame: u32, addr: u32, size: Size) -> usize
     frame as usize * 4096 + (align(addr, size) % 4096) as usize
 }
 
-// A fault, with the address asked.
-fn denied(code: u32, addr: u32) -> Answer
-    ensures { λ r. ⌜ r ≡ Denied (record { code = code; address = addr }) ⌝ }
+// A fault, with its cause and the address asked.
+fn denied(code: u16, cause: Cause, addr: u32) -> Answer
+    ensures { λ r. ⌜ r ≡ Denied (record { code = code; cause = cause; address = addr }) ⌝ }
 {
     Answer::Denied(Fault {
         code,
+        cause,
         address: addr,
     })
 }
@@ -69,7 +71,7 @@ fn refill(
             buffer::keep(tlb, i, buffer::pack(page, frame, u, w));
             Answer::At(in_frame(frame, addr, size))
         }
-        PageWalk::Faulted(code) => denied(code, addr),
+        PageWalk::Faulted(code, cause) => denied(code, cause, addr),
     }
 }
 
@@ -93,7 +95,7 @@ fn translate_slow(
         if (addr as usize) < mem.len() {
             return Answer::At(align(addr, size) as usize);
         }
-        return denied(paging::FMEM, addr);
+        return denied(paging::FMEM, Cause::AddressBeyondMemory, addr);
     }
     let page = addr / 4096;
     let i = buffer::lookup(tlb, page as u64);
@@ -111,7 +113,10 @@ fn again(a: Answer) -> Answer
 {
     match a {
         Answer::At(q) => Answer::At(q),
-        Answer::Denied(f) => denied(f.code, f.address),
+        Answer::Denied(f) => {
+            let cause = f.cause;
+            denied(f.code, cause, f.address)
+        }
     }
 }
 

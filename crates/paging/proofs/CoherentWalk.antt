@@ -19,7 +19,7 @@ use Rattle.paging.proofs.EventLaws.{WalkOnly, no-events, walk-began, wa
 
 -- the entry that a finding gives, and its words
 abbrev pub FoundCoherent : ℕ → ℕ → List ℕ → Found → Type 0
-FoundCoherent pdir page m (fault c) = Unit
+FoundCoherent pdir page m (fault code cause) = Unit
 FoundCoherent pdir page m (found f u w da ta) =
     CoherentEntry m pdir (record { page = page; frame = f; user = u; write = w }) (record { page = page; dir = da; tab = ta })
 
@@ -130,7 +130,7 @@ module _ (m : List ℕ) (pdir page : ℕ) (k : Access) (user : Bool) (al : pdir 
 
   -- "else page fault"
   table-keeps : (b : Bool) → present dw ≡ true → ltb (cut 4096 dw) (length m) ≡ true → allows dw tw k user ≡ b
-      → WalkKeeps m pdir page (walkTable b es1 m1 dw tw da ta k)
+      → WalkKeeps m pdir page (walkTable b es1 m1 dw tw da ta k user)
   unfolding walkTable
   table-keeps false hp hi ha = record { marks = dir-marks; coherent = tt; only = dir-only }
   table-keeps true hp hi ha = frame-keeps (ltb (cut 4096 tw) (length m1)) hp hi ha refl

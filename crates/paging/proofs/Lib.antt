@@ -8,3 +8,4 @@ pub mod BufferLaws
 pub mod ValidBuffer
 pub mod RequestAgrees
 pub mod Permitted
+pub mod Causes

@@ -41,7 +41,7 @@ permits-before g p = record {
 
 -- what a walk finds is permitted
 abbrev FoundPermits : ℕ → ℕ → Access → Bool → Found → Type 0
-FoundPermits dw tw k user (fault c) = Unit
+FoundPermits dw tw k user (fault code cause) = Unit
 FoundPermits dw tw k user (found f u w da ta) = Permits dw tw k user f
 
 module _ (k : Access) (user : Bool) (dw da : ℕ) (hp : present dw ≡ true) where
@@ -51,7 +51,7 @@ module _ (k : Access) (user : Bool) (dw da : ℕ) (hp : present dw ≡ true) whe
   frame-permits false es m tw ta ha = tt
   frame-permits true es m tw ta ha = record { dir-present = hp; allowed = ha; frame-is = refl }
 
-  table-permits : (b : Bool) (es : List Event) (m : List ℕ) (tw ta : ℕ) → allows dw tw k user ≡ b → FoundPermits dw tw k user (walkTable b es m dw tw da ta k .found)
+  table-permits : (b : Bool) (es : List Event) (m : List ℕ) (tw ta : ℕ) → allows dw tw k user ≡ b → FoundPermits dw tw k user (walkTable b es m dw tw da ta k user .found)
   unfolding walkTable
   table-permits false es m tw ta ha = tt
   table-permits true es m tw ta ha = frame-permits (ltb (cut 4096 tw) (length m)) _ (markFor k m ta) tw ta ha
@@ -81,7 +81,7 @@ module _ (m : List ℕ) (pdir page : ℕ) (k : Access) (user : Bool) where
 -- an answer at p is in the frame that was found
 answer-permits : {dw tw : ℕ} (q : Request) (p : ℕ) (o : Found) → answerOf q o ≡ At p → FoundPermits dw tw (q .kind) (q .user) o → Permits dw tw (q .kind) (q .user) (p / 4096)
 unfolding answerOf
-answer-permits q p (fault c) e g = let z : _≡_ {A = ℕ} 0 1 = cc in absurd (omega arith)
+answer-permits q p (fault code cause) e g = let z : _≡_ {A = ℕ} 0 1 = cc in absurd (omega arith)
 answer-permits q p (found f u w da ta) e g =
     let a : f * 4096 + cut (q .size) (q .addr) % 4096 ≡ p = cc in
     record { dir-present = g .dir-present; allowed = g .allowed; frame-is = g .frame-is ∙ omega arith }

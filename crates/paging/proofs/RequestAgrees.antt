@@ -91,13 +91,13 @@ keep-coherent false e h c cs = place-coherent e h c none-held
 after-coherent : {n : List ℕ} {pdir : ℕ} {es : List Entry} {hs : List Words} (p : ℕ) (o : Found) → FoundCoherent pdir p n o → Coherent n pdir es hs
     → Coherent n pdir (afterWalk p es o) (heldAfter hs (walkEvents p es o))
 unfolding afterWalk walkEvents
-after-coherent p (fault c) ok cs = unfold heldAfter in cs
+after-coherent p (fault code cause) ok cs = unfold heldAfter in cs
 after-coherent {es = es} p (found f u w da ta) ok cs = unfold keep in keep-coherent (fits p es) _ _ ok cs
 
 -- keeping what a walk found is no store
 after-stores : (hs : List Words) (p : ℕ) (es : List Entry) (o : Found) → storesHeld hs (walkEvents p es o) ≡ false
 unfolding walkEvents
-after-stores hs p es (fault c) = unfold storesHeld in refl
+after-stores hs p es (fault code cause) = unfold storesHeld in refl
 after-stores hs p es (found f u w da ta) = keep-stores hs (fits p es) (record { page = p; dir = da; tab = ta })
 
 -- ---- the request

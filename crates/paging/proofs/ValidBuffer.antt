@@ -46,7 +46,7 @@ found-ok {n} e p w c =
 after-ok : (n : List ℕ) (pdir : ℕ) (es : List Entry) (p : ℕ) (o : Found) → p < 1048576 → length n % 4096 ≡ 0 → FoundCoherent pdir p n o
     → bufferOk (length n) es ≡ true → bufferOk (length n) (afterWalk p es o) ≡ true
 unfolding afterWalk
-after-ok n pdir es p (fault c) pb wh ok b = b
+after-ok n pdir es p (fault code cause) pb wh ok b = b
 after-ok n pdir es p (found f u w da ta) pb wh ok b = keep-ok (length n) _ es (found-ok _ pb wh ok) b
 
 module _ (s : Space) (q : Request) (m : List ℕ) (es : List Entry) (v : Valid s m es) where

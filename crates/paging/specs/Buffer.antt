@@ -61,12 +61,12 @@ keep e es = place entryPage e (roomIn (fits (e .page) es) es)
 -- the buffer after a walk for page p
 unfoldable pub afterWalk : ℕ → List Entry → Found → List Entry
 unfolding keep
-afterWalk p es (fault c) = es
+afterWalk p es (fault code cause) = es
 afterWalk p es (found f u w da ta) = keep (record { page = p; frame = f; user = u; write = w }) es
 
 unfoldable pub walkEvents : ℕ → List Entry → Found → List Event
 unfolding keepEvents
-walkEvents p es (fault c) = []
+walkEvents p es (fault code cause) = []
 walkEvents p es (found f u w da ta) = keepEvents (fits p es) (record { page = p; dir = da; tab = ta })
 
 -- ---- refusal 3: "count above 64, page 2^20 or more, frame not below M/4,096, or a page twice"

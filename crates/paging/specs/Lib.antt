@@ -3,4 +3,5 @@ pub mod Event
 pub mod Walk
 pub mod Buffer
 pub mod Translate
+pub mod Cause
 pub mod Held

@@ -1,4 +1,4 @@
--- Document 01, "Addresses" and "The table reader": translation, in the machine with the page buffer and in the table reader.
+-- Document 01, "Addresses" and "The table reader", and document 02, item 4: translation, in the machine with the page buffer and in the table reader.
 use Prim.Native.Nat.{ℕ, _+_, _*_, _/_, _%_}
 use mathlib.Core.Bool.{Bool, true, false}
 use mathlib.Core.List.{List, [], _∷_, _++_}
@@ -7,6 +7,8 @@ use lib.ListN.{length}
 use lib.Dec.{ltb}
 use Rattle.word.specs.Word.{if_then_else_, cut}
 use Rattle.paging.specs.declared.Access.{Access}
+use Rattle.paging.specs.declared.Cause.{Cause}
+use Rattle.paging.specs.declared.Cause.the-variants.{AddressBeyondMemory}
 use Rattle.paging.specs.declared.Entry.{Entry}
 use Rattle.paging.specs.declared.Space.{Space}
 use Rattle.paging.specs.declared.Answer.{Answer}
@@ -42,9 +44,9 @@ pub record Translator (B : Type 0) : Type 0 where
 
 -- ---- answers
 
--- faults "set vadr to the address asked, before low bits drop"
-abbrev pub denied : ℕ → Request → Answer
-denied code q = Denied (record { code = code; address = q .addr })
+-- faults "set vadr to the address asked, before low bits drop"; "translation should name its cause with every fault"
+abbrev pub denied : ℕ → Cause → Request → Answer
+denied code cause q = Denied (record { code = code; cause = cause; address = q .addr })
 
 -- "Accesses drop low address bits to the natural size": the address in a frame
 abbrev pub inFrame : ℕ → Request → Answer
@@ -56,10 +58,10 @@ pageOf q = q .addr / 4096 % 1048576
 
 -- "Paging off: the address itself, FMEM if not below M"
 unfoldable pub direct : Request → List ℕ → Answer
-direct q m = if ltb (q .addr) (length m) then At (cut (q .size) (q .addr)) else denied FMEM q
+direct q m = if ltb (q .addr) (length m) then At (cut (q .size) (q .addr)) else denied FMEM AddressBeyondMemory q
 
 unfoldable pub answerOf : Request → Found → Answer
-answerOf q (fault c) = denied c q
+answerOf q (fault code cause) = denied code cause q
 answerOf q (found f u w da ta) = inFrame f q
 
 -- ---- the machine with the page buffer

@@ -1,4 +1,4 @@
--- Document 01, "Addresses": the page table walk. Its stages stand in the order of the sentences; each takes the outcome of its test first.
+-- Document 01, "Addresses", and document 02, item 4: the page table walk, which names the cause of a fault. Its stages stand in the order of the sentences; each takes the outcome of its test first.
 use Prim.Native.Nat.{ℕ, _+_, _*_, _/_, _%_, _-_}
 use mathlib.Core.Bool.{Bool, true, false, not, _&&_, _||_}
 use mathlib.Core.List.{List, [], _∷_, _++_}
@@ -8,6 +8,8 @@ use Rattle.word.specs.Word.{if_then_else_, cut}
 use Rattle.memory.specs.Memory.{loadN}
 use Rattle.paging.specs.declared.Access.{Access}
 use Rattle.paging.specs.declared.Access.the-variants.{Fetch, Read, Write}
+use Rattle.paging.specs.declared.Cause.{Cause}
+use Rattle.paging.specs.declared.Cause.the-variants.{DirectoryAbsent, DirectoryBeyondMemory, TableAbsent, NoUserRight, NoWriteRight, FrameBeyondMemory}
 use Rattle.paging.specs.TrapCode.{FMEM, pageFault}
 use Rattle.paging.specs.Event.{Event, walked, marked}
 
@@ -81,11 +83,16 @@ unfoldable pub allows : ℕ → ℕ → Access → Bool → Bool
 unfolding userOk writeOk isWrite
 allows dw tw kind user = present tw && userOk dw tw user && writeOk dw tw kind
 
+-- where it doesn't, the first of these tests that fails: "table absent, no user right, no write right"
+unfoldable pub refusedBy : ℕ → ℕ → Bool → Cause
+unfolding userOk
+refusedBy dw tw user = if present tw then (if userOk dw tw user then NoWriteRight else NoUserRight) else TableAbsent
+
 -- ---- the walk
 
--- what a walk finds: a fault's code; or the frame, the user and the write right, and the addresses of the two words read
+-- what a walk finds: a fault's code and cause; or the frame, the user and the write right, and the addresses of the two words read
 pub data Found : Type 0 where
-  fault : ℕ → Found
+  fault : (code : ℕ) (cause : Cause) → Found
   found : (frame : ℕ) (user write : Bool) (dir tab : ℕ) → Found
 
 pub record Walked : Type 0 where
@@ -95,7 +102,7 @@ pub record Walked : Type 0 where
 
 -- "If its frame is not below M, FMEM. Then an entry is kept": write right "needs W in both words and D in the table word"
 unfoldable pub walkFrame : Bool → List Event → List ℕ → ℕ → ℕ → ℕ → ℕ → Walked
-walkFrame false es m dw tw da ta = record { mem = m; found = fault FMEM; events = es }
+walkFrame false es m dw tw da ta = record { mem = m; found = fault FMEM FrameBeyondMemory; events = es }
 walkFrame true es m dw tw da ta = record {
   mem = m;
   found = found (tw / 4096) (forUser dw && forUser tw) (writable dw && writable tw && dirty (loadN 4 m ta)) da ta;
@@ -103,22 +110,22 @@ walkFrame true es m dw tw da ta = record {
 }
 
 -- the table word allows the access, "else page fault. Set A, for a write A and D"
-unfoldable pub walkTable : Bool → List Event → List ℕ → ℕ → ℕ → ℕ → ℕ → Access → Walked
-unfolding walkFrame
-walkTable false es m dw tw da ta kind = record { mem = m; found = fault (pageFault kind); events = es }
-walkTable true es m dw tw da ta kind = walkFrame (ltb (cut 4096 tw) (length m)) (es ++ markEvents kind tw ta) (markFor kind m ta) dw tw da ta
+unfoldable pub walkTable : Bool → List Event → List ℕ → ℕ → ℕ → ℕ → ℕ → Access → Bool → Walked
+unfolding walkFrame refusedBy
+walkTable false es m dw tw da ta kind user = record { mem = m; found = fault (pageFault kind) (refusedBy dw tw user); events = es }
+walkTable true es m dw tw da ta kind user = walkFrame (ltb (cut 4096 tw) (length m)) (es ++ markEvents kind tw ta) (markFor kind m ta) dw tw da ta
 
 -- "if its frame address is not below M, FMEM"
 unfoldable pub walkBelow : Bool → List Event → List ℕ → ℕ → ℕ → ℕ → Access → Bool → Walked
 unfolding walkTable
-walkBelow false es m dw da page kind user = record { mem = m; found = fault FMEM; events = es }
+walkBelow false es m dw da page kind user = record { mem = m; found = fault FMEM DirectoryBeyondMemory; events = es }
 walkBelow true es m dw da page kind user =
-    walkTable (allows dw (loadN 4 m (tabAt dw page)) kind user) es m dw (loadN 4 m (tabAt dw page)) da (tabAt dw page) kind
+    walkTable (allows dw (loadN 4 m (tabAt dw page)) kind user) es m dw (loadN 4 m (tabAt dw page)) da (tabAt dw page) kind user
 
 -- "Without P: page fault. Set A there"
 unfoldable pub walkDir : Bool → List ℕ → ℕ → ℕ → ℕ → Access → Bool → Walked
 unfolding walkBelow
-walkDir false m dw da page kind user = record { mem = m; found = fault (pageFault kind); events = walked ∷ [] }
+walkDir false m dw da page kind user = record { mem = m; found = fault (pageFault kind) DirectoryAbsent; events = walked ∷ [] }
 walkDir true m dw da page kind user =
     walkBelow (ltb (cut 4096 dw) (length m)) (walked ∷ markEvents Read dw da) (mark 32 m da) dw da page kind user
 

@@ -34,9 +34,24 @@ pub struct Space {
     pub paging: bool,
 }
 
-// A fault of an access: its trap code, and the address asked.
+// Why translation denies an access: document 02, item 4, in its order, which is that of checking.
+pub enum Cause {
+    AddressBeyondMemory,
+    // The directory word has no P.
+    DirectoryAbsent,
+    DirectoryBeyondMemory,
+    // The table word has no P.
+    TableAbsent,
+    NoUserRight,
+    NoWriteRight,
+    FrameBeyondMemory,
+}
+
+// A fault of an access: its trap code, its cause, and the address asked. Trap codes take sixteen bits and stand first: a fault is eight bytes
+// then, and instructions' ends stay in machine registers.
 pub struct Fault {
-    pub code: u32,
+    pub code: u16,
+    pub cause: Cause,
     pub address: u32,
 }
 
@@ -49,34 +64,34 @@ pub enum Answer {
 // ---- document 01, "Traps": the trap codes, in the source's order
 
 // Bad physical address.
-pub const FMEM: u32 = 0;
+pub const FMEM: u16 = 0;
 
 // Timer interrupt.
-pub const FTIMER: u32 = 1;
+pub const FTIMER: u16 = 1;
 
 // Keyboard interrupt.
-pub const FKEYBD: u32 = 2;
+pub const FKEYBD: u16 = 2;
 
 // Privileged instruction.
-pub const FPRIV: u32 = 3;
+pub const FPRIV: u16 = 3;
 
 // Illegal instruction.
-pub const FINST: u32 = 4;
+pub const FINST: u16 = 4;
 
 // Software trap.
-pub const FSYS: u32 = 5;
+pub const FSYS: u16 = 5;
 
 // Arithmetic trap.
-pub const FARITH: u32 = 6;
+pub const FARITH: u16 = 6;
 
 // Page fault on opcode fetch.
-pub const FIPAGE: u32 = 7;
+pub const FIPAGE: u16 = 7;
 
 // Page fault on write.
-pub const FWPAGE: u32 = 8;
+pub const FWPAGE: u16 = 8;
 
 // Page fault on read.
-pub const FRPAGE: u32 = 9;
+pub const FRPAGE: u16 = 9;
 
 // User mode exception: the mark added to a code.
 pub const USER: u32 = 16;

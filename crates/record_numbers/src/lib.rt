@@ -2,14 +2,17 @@
 // taken and console bytes written stand beside it.
 ghost use mathlib.Core.Path.{_≡_};
 ghost use Rattle.rules.specs.Arithmetic.{flag};
-ghost use Rattle.rules.specs.Numbers.{numbersOf, stopOf, recordOfLow};
+ghost use Rattle.rules.specs.Numbers.{numbersOf, stopOf, causeOf, recordOfLow};
+use paging::Cause;
 use paging::Space;
 use rules::Clock;
 use rules::Cpu;
+use rules::LastCause;
 use rules::Pending;
 use rules::Regs;
 use rules::Stop;
 use rules::System;
+use rules::cause_number;
 use rules::stop_number;
 
 // A flag as a number.
@@ -20,7 +23,7 @@ fn flag(b: bool) -> u64
 }
 
 // The numbers of a record.
-pub fn numbers_of(c: Cpu) -> [u64; 21]
+pub fn numbers_of(c: Cpu) -> [u64; 22]
     ensures { λ r. ⌜ r ≡ numbersOf c ⌝ }
 {
     let regs = c.regs;
@@ -29,6 +32,7 @@ pub fn numbers_of(c: Cpu) -> [u64; 21]
     let space = c.space;
     let system = c.system;
     let stop = c.stop;
+    let cause = c.cause;
     [
         regs.a as u64,
         regs.b as u64,
@@ -50,6 +54,7 @@ pub fn numbers_of(c: Cpu) -> [u64; 21]
         flag(pending.key),
         flag(pending.timer),
         stop_number(stop) as u64,
+        cause_number(cause) as u64,
         regs.count,
     ]
 }
@@ -70,11 +75,27 @@ fn stop_of(n: u64) -> Stop
     Stop::NoFrame
 }
 
+// A cause, from its number; each above 7 as 7.
+fn cause_of(n: u64) -> LastCause
+    ensures { λ r. ⌜ r ≡ causeOf n ⌝ }
+{
+    match n {
+        0 => LastCause::None,
+        1 => LastCause::Of(Cause::AddressBeyondMemory),
+        2 => LastCause::Of(Cause::DirectoryAbsent),
+        3 => LastCause::Of(Cause::DirectoryBeyondMemory),
+        4 => LastCause::Of(Cause::TableAbsent),
+        5 => LastCause::Of(Cause::NoUserRight),
+        6 => LastCause::Of(Cause::NoWriteRight),
+        _ => LastCause::Of(Cause::FrameBeyondMemory),
+    }
+}
+
 // How many numbers 32 bits have.
 const WORDS: u64 = 0x1_0000_0000;
 
 // A record, from its numbers.
-pub fn record_of(n: [u64; 21], taken: usize, written: usize) -> Cpu
+pub fn record_of(n: [u64; 22], taken: usize, written: usize) -> Cpu
     ensures { λ r. ⌜ r ≡ recordOfLow n taken written ⌝ }
 {
     let regs = Regs {
@@ -83,7 +104,7 @@ pub fn record_of(n: [u64; 21], taken: usize, written: usize) -> Cpu
         c: (n[2] % WORDS) as u32,
         sp: (n[3] % WORDS) as u32,
         pc: (n[6] % WORDS) as u32,
-        count: n[20],
+        count: n[21],
     };
     let pending = Pending {
         key: n[17] == 1,
@@ -114,6 +135,7 @@ pub fn record_of(n: [u64; 21], taken: usize, written: usize) -> Cpu
         vadr: (n[9] % WORDS) as u32,
         space,
         system,
+        cause: cause_of(n[20]),
         stop: stop_of(n[19]),
         written,
     }

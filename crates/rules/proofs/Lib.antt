@@ -3,8 +3,10 @@ pub mod Leaves
 pub mod LowBits
 pub mod StepTree
 pub mod StepSpace
+pub mod Kept
 pub mod PendingLaws
 pub mod NoneLost
+pub mod FaultLaws
 pub mod ValidStep
 pub mod Simulation
 pub mod StepAgrees

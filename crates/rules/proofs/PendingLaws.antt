@@ -7,11 +7,7 @@ use mathlib.Core.Path.{_≡_, refl, sym, ap, _∙_, subst}
 use lib.Dec.{eqb}
 use lib.ListN.{length}
 use Rattle.word.specs.Word.{if_then_else_}
-use Rattle.decode.specs.declared.PlainOp.{PlainOp}
-use Rattle.decode.specs.declared.PlainOp.the-variants.{Halt, Cli, Sti, Bin, Ssp, Ivec, Time, Lvad, Lusp, Susp, Msiz, Idle}
 use Rattle.paging.specs.Translate.{Translator}
-use Rattle.paging.specs.TrapCode.{USER}
-use Rattle.paging.specs.Walk.{bit}
 use Rattle.rules.specs.declared.Clock.{Clock}
 use Rattle.rules.specs.declared.Cpu.{Cpu}
 use Rattle.rules.specs.declared.Due.{Due}
@@ -22,15 +18,15 @@ use Rattle.rules.specs.declared.Key.{Key}
 use Rattle.rules.specs.declared.Next.{Next}
 use Rattle.rules.specs.declared.Pending.{Pending}
 use Rattle.rules.specs.declared.Stop.the-variants.{NoFrame}
-use Rattle.rules.specs.Record.{withTimer, withClock, withTimeout, withPending, withTimerPending}
+use Rattle.rules.specs.Record.{withTimer, withPending, withTimerPending}
 use Rattle.rules.specs.Tree.{Reply, got, denied, Ended, storeEvents, interpret}
 use Rattle.rules.specs.Trap.{Effect, deliver, Final, framed, deliverTree}
-use Rattle.rules.specs.System.{computed, backTo}
 use Rattle.rules.specs.Clock.{nextOf, keyComes, keyed, timerFires, timed, ticked, interruptCode, dueOf, cleared}
 use Rattle.rules.specs.Step.{awake, dueTree, State, effectEvents, steppedBy, step}
 use Rattle.rules.specs.Pending.{happens, isPending, pendingOf, Delivered, PendingAfter, kept, clear, DueAfter, delivers, stops}
 use Rattle.rules.proofs.Leaves.{Leaves, at-leaf, at-ask, leaves-all, leaf-at}
 use Rattle.rules.proofs.StepTree.{Shapes, every-step}
+use Rattle.rules.proofs.Kept.{computed-keeps, returned-keeps}
 
 -- ---- "a key or timer event always sets its mark"
 
@@ -91,29 +87,6 @@ data PendingEnd (c : Cpu) (f : Final) : Type 0 where
   both-kept : f .cpu .clock .pending ≡ c .clock .pending → PendingEnd c f
   one-cleared : (i : Interrupt) → dueOf c ≡ Now i → f .effect ≡ deliver (interruptCode i) → f .cpu .clock .pending ≡ cleared i (c .clock .pending) → PendingEnd c f
 
--- no privileged instruction sets or clears a mark: TIME does something or nothing
-time-keeps : (b : Bool) (c : Cpu) → (if b then withClock (withTimeout (c .regs .a) (c .clock)) c else c) .clock .pending ≡ c .clock .pending
-time-keeps true c = refl
-time-keeps false c = refl
-
-computed-keeps : (size : ℕ) (op : PlainOp) (c : Cpu) → computed size op c .clock .pending ≡ c .clock .pending
-computed-keeps size Halt c = refl
-computed-keeps size Cli c = refl
-computed-keeps size Sti c = refl
-computed-keeps size Bin c = refl
-computed-keeps size Ssp c = refl
-computed-keeps size Ivec c = refl
-computed-keeps size (Time i) c = time-keeps (eqb i 0) c
-computed-keeps size Lvad c = refl
-computed-keeps size Lusp c = refl
-computed-keeps size Susp c = refl
-computed-keeps size Msiz c = refl
-computed-keeps size Idle c = refl
-
-back-keeps : (b : Bool) (c : Cpu) → backTo b c .clock .pending ≡ c .clock .pending
-back-keeps true c = refl
-back-keeps false c = refl
-
 module _ (c : Cpu) where
   -- a fault's or TRAP's frame, stored or not
   frame-keeps : (x : Cpu) (code pc : ℕ) → x .clock .pending ≡ c .clock .pending → (r : Reply) → Leaves (PendingEnd c) (framed x (x .clock .pending) code pc r)
@@ -127,8 +100,8 @@ module _ (c : Cpu) where
     on-moved = λ x g. g;
     waits = λ x g. at-leaf (both-kept g);
     masks = λ x g. at-leaf (both-kept g);
-    computes = λ x op g. at-leaf (both-kept (computed-keeps size op x ∙ g));
-    returns = λ x code pc g. at-leaf (both-kept (back-keeps (bit USER code) _ ∙ g));
+    computes = λ x op g. at-leaf (both-kept (computed-keeps size op x .pending ∙ g));
+    returns = λ x code pc g. at-leaf (both-kept (returned-keeps x code pc .pending ∙ g));
     fills = λ x g. at-leaf (both-kept g);
     prints = λ x g e. at-leaf (both-kept g);
     directs = λ x g e. at-leaf (both-kept g);

@@ -10,6 +10,7 @@ use Rattle.decode.specs.declared.PlainOp.{PlainOp}
 use Rattle.decode.specs.declared.SysOp.{SysOp}
 use Rattle.decode.specs.declared.SysOp.the-variants.{Plain, Rti, Bout, Pdir, Spag}
 use Rattle.paging.specs.declared.Access.the-variants.{Read}
+use Rattle.paging.specs.declared.Cause.the-variants.{AddressBeyondMemory}
 use Rattle.paging.specs.declared.Fault.{Fault}
 use Rattle.paging.specs.TrapCode.{FMEM, FPRIV}
 use Rattle.rules.specs.declared.Cpu.{Cpu}
@@ -18,7 +19,7 @@ use Rattle.rules.specs.declared.Due.the-variants.{Nothing, Now}
 use Rattle.rules.specs.declared.Interrupt.{Interrupt}
 use Rattle.rules.specs.declared.Regs.{Regs}
 use Rattle.rules.specs.declared.Stop.the-variants.{Masked}
-use Rattle.rules.specs.Record.{withRegs, withVadr, withStop, putA}
+use Rattle.rules.specs.Record.{withRegs, withFault, withStop, putA}
 use Rattle.rules.specs.Tree.{Reply, got, denied, Tree, ask, access}
 use Rattle.rules.specs.Outcome.{Out, fine, unfetched, trap, refused, system}
 use Rattle.rules.specs.Execute.{moved, instructionTree}
@@ -30,8 +31,8 @@ use Rattle.rules.proofs.Leaves.{Leaves, at-leaf, leaves-then, leaves-if
 -- ---- what is asked of T and G
 
 pub record Shapes (size consoleSize : ℕ) (T : Tree Final → Type 0) (G : Cpu → Type 0) : Type 0 where
-  -- G is kept where a fault sets vadr and where pc moves on
-  pub on-fault : (c : Cpu) (address : ℕ) → G c → G (withVadr address c)
+  -- G is kept where a fault sets vadr and the cause, and where pc moves on
+  pub on-fault : (c : Cpu) (f : Fault) → G c → G (withFault f c)
   pub on-moved : (c : Cpu) → G c → G (withRegs (moved (c .regs)) c)
   -- the record alone changes: a step that only waits, a stop with 2, a privileged instruction that computes, RTI, a full console
   pub waits : (c : Cpu) → G c → T (ended c)
@@ -63,7 +64,7 @@ module _ {size consoleSize : ℕ} {T : Tree Final → Type 0} {G : Cpu → Type 
   -- a fault with its address
   pub every-fault : (c : Cpu) (f : Fault) (pc : ℕ) → G c → T (faultTree c f pc)
   unfolding faultTree
-  every-fault c f pc g = every-trap (withVadr (f .address) c) (f .code) pc (shapes .on-fault c (f .address) g)
+  every-fault c f pc g = every-trap (withFault f c) (f .code) pc (shapes .on-fault c f g)
 
   -- what follows a reply of RTI's reads
   or-fault : (c : Cpu) {k : ℕ → Tree Final} → G c → ((v : ℕ) → T (k v)) → (r : Reply) → T (orFault c k r)
@@ -77,7 +78,7 @@ module _ {size consoleSize : ℕ} {T : Tree Final → Type 0} {G : Cpu → Type 
   every-privileged Rti old c o g = shapes .reads (or-fault old o (λ code. shapes .reads (or-fault old o (λ pc. shapes .returns old code pc o))))
   every-privileged Bout old c o g = choice T (ltb (c .written) consoleSize) (shapes .prints c g) (shapes .fills c g)
   every-privileged Pdir old c o g =
-      choice T (ltb (c .regs .a) size) (shapes .directs c g) (every-fault old (record { code = FMEM; address = c .regs .a }) (nextPc old) o)
+      choice T (ltb (c .regs .a) size) (shapes .directs c g) (every-fault old (record { code = FMEM; cause = AddressBeyondMemory; address = c .regs .a }) (nextPc old) o)
   every-privileged Spag old c o g = shapes .pages c g
 
   -- with their privilege

@@ -13,4 +13,5 @@ pub mod Clock
 pub mod Step
 pub mod Run
 pub mod Pending
+pub mod LastFault
 pub mod Load

@@ -1,4 +1,4 @@
--- Document 01, "The record and the loaded program": what a load gives.
+-- Document 01, "The record and the loaded program", and document 02, item 4: what a load gives.
 use Prim.Native.Nat.{ℕ, _-_}
 use mathlib.Core.Bool.{false}
 use mathlib.Core.List.{List, _++_}
@@ -10,8 +10,9 @@ use Rattle.paging.specs.declared.Entry.{Entry}
 use Rattle.rules.specs.declared.Cpu.{Cpu}
 use Rattle.rules.specs.declared.Machine.{Machine}
 use Rattle.rules.specs.declared.Stop.the-variants.{Running}
+use Rattle.rules.specs.declared.LastCause.the-variants.{None}
 
--- "pc = entry, sp = M, kbchar = 0xFFFFFFFF, all else 0"
+-- "pc = entry, sp = M, kbchar = 0xFFFFFFFF, all else 0"; the cause is "none at first"
 abbrev pub cpuWith : (sp pc kbchar : ℕ) → Cpu
 cpuWith sp pc kbchar = record {
   regs = record { a = 0; b = 0; c = 0; sp = sp; pc = pc; count = 0 };
@@ -19,6 +20,7 @@ cpuWith sp pc kbchar = record {
   vadr = 0;
   space = record { pdir = 0; paging = false };
   system = record { usp = 0; ksp = 0; ivec = 0; user = false; iena = false; waiting = false };
+  cause = None;
   stop = Running;
   written = 0;
 }

@@ -1,7 +1,9 @@
--- Document 01, "The record and the loaded program", and document 02, item 1: its numbers for the stop reasons, and the record with one part put in place.
+-- Document 01, "The record and the loaded program", and document 02, items 1 and 4: the numbers of stop reasons and causes, and the record with one part put in place.
 use Prim.Native.Nat.{ℕ}
 use mathlib.Core.Bool.{Bool, true, false}
 use Rattle.word.specs.Word.{cut}
+use Rattle.paging.specs.declared.Cause.the-variants.{AddressBeyondMemory, DirectoryAbsent, DirectoryBeyondMemory, TableAbsent, NoUserRight, NoWriteRight, FrameBeyondMemory}
+use Rattle.paging.specs.declared.Fault.{Fault}
 use Rattle.paging.specs.declared.Space.{Space}
 use Rattle.rules.specs.declared.Regs.{Regs}
 use Rattle.rules.specs.declared.Clock.{Clock}
@@ -9,6 +11,8 @@ use Rattle.rules.specs.declared.Pending.{Pending}
 use Rattle.rules.specs.declared.System.{System}
 use Rattle.rules.specs.declared.Stop.{Stop}
 use Rattle.rules.specs.declared.Stop.the-variants.{Running, Halted, Masked, NoFrame}
+use Rattle.rules.specs.declared.LastCause.{LastCause}
+use Rattle.rules.specs.declared.LastCause.the-variants.{None, Of}
 use Rattle.rules.specs.declared.Cpu.{Cpu}
 
 -- "Stop reasons: 0 running, 1 halted, 2 trap while iena = 0, 3 trap frame cannot be stored"
@@ -17,6 +21,17 @@ stopNumber Running = 0
 stopNumber Halted = 1
 stopNumber Masked = 2
 stopNumber NoFrame = 3
+
+-- document 02, item 5: "cause (0 none, then item 4's order)"
+abbrev pub causeNumber : LastCause → ℕ
+causeNumber None = 0
+causeNumber (Of AddressBeyondMemory) = 1
+causeNumber (Of DirectoryAbsent) = 2
+causeNumber (Of DirectoryBeyondMemory) = 3
+causeNumber (Of TableAbsent) = 4
+causeNumber (Of NoUserRight) = 5
+causeNumber (Of NoWriteRight) = 6
+causeNumber (Of FrameBeyondMemory) = 7
 
 abbrev pub isRunning : Stop → Bool
 isRunning Running = true
@@ -54,25 +69,26 @@ setPc x r = withPc (cut 4 x) r
 -- ---- the groups of the record
 
 abbrev pub withRegs : Regs → Cpu → Cpu
-withRegs r c = record { regs = r; clock = c .clock; vadr = c .vadr; space = c .space; system = c .system; stop = c .stop; written = c .written }
+withRegs r c = record { regs = r; clock = c .clock; vadr = c .vadr; space = c .space; system = c .system; cause = c .cause; stop = c .stop; written = c .written }
 
 abbrev pub withClock : Clock → Cpu → Cpu
-withClock clock c = record { regs = c .regs; clock = clock; vadr = c .vadr; space = c .space; system = c .system; stop = c .stop; written = c .written }
+withClock clock c = record { regs = c .regs; clock = clock; vadr = c .vadr; space = c .space; system = c .system; cause = c .cause; stop = c .stop; written = c .written }
 
-abbrev pub withVadr : ℕ → Cpu → Cpu
-withVadr x c = record { regs = c .regs; clock = c .clock; vadr = x; space = c .space; system = c .system; stop = c .stop; written = c .written }
+-- a fault sets vadr and, "whenever vadr is", the cause
+abbrev pub withFault : Fault → Cpu → Cpu
+withFault f c = record { regs = c .regs; clock = c .clock; vadr = f .address; space = c .space; system = c .system; cause = Of (f .cause); stop = c .stop; written = c .written }
 
 abbrev pub withSpace : Space → Cpu → Cpu
-withSpace s c = record { regs = c .regs; clock = c .clock; vadr = c .vadr; space = s; system = c .system; stop = c .stop; written = c .written }
+withSpace s c = record { regs = c .regs; clock = c .clock; vadr = c .vadr; space = s; system = c .system; cause = c .cause; stop = c .stop; written = c .written }
 
 abbrev pub withSystem : System → Cpu → Cpu
-withSystem y c = record { regs = c .regs; clock = c .clock; vadr = c .vadr; space = c .space; system = y; stop = c .stop; written = c .written }
+withSystem y c = record { regs = c .regs; clock = c .clock; vadr = c .vadr; space = c .space; system = y; cause = c .cause; stop = c .stop; written = c .written }
 
 abbrev pub withStop : Stop → Cpu → Cpu
-withStop x c = record { regs = c .regs; clock = c .clock; vadr = c .vadr; space = c .space; system = c .system; stop = x; written = c .written }
+withStop x c = record { regs = c .regs; clock = c .clock; vadr = c .vadr; space = c .space; system = c .system; cause = c .cause; stop = x; written = c .written }
 
 abbrev pub withWritten : ℕ → Cpu → Cpu
-withWritten x c = record { regs = c .regs; clock = c .clock; vadr = c .vadr; space = c .space; system = c .system; stop = c .stop; written = x }
+withWritten x c = record { regs = c .regs; clock = c .clock; vadr = c .vadr; space = c .space; system = c .system; cause = c .cause; stop = c .stop; written = x }
 
 -- ---- within the groups
 

@@ -9,6 +9,7 @@ use Rattle.decode.specs.declared.PlainOp.the-variants.{Halt, Cli, Sti, Bin, Ssp
 use Rattle.decode.specs.declared.SysOp.{SysOp}
 use Rattle.decode.specs.declared.SysOp.the-variants.{Plain, Rti, Bout, Pdir, Spag}
 use Rattle.paging.specs.declared.Access.the-variants.{Read}
+use Rattle.paging.specs.declared.Cause.the-variants.{AddressBeyondMemory}
 use Rattle.paging.specs.Walk.{bit}
 use Rattle.paging.specs.TrapCode.{FMEM, FPRIV, USER}
 use Rattle.rules.specs.declared.Stop.the-variants.{Halted}
@@ -70,13 +71,13 @@ appended c = final (putA 1 (withWritten (c .written + 1) c)) [] (print (c .regs 
 unfoldable pub boutTree : ℕ → Cpu → Tree Final
 boutTree consoleSize c = if ltb (c .written) consoleSize then appended c else ended (putA 0xffffffff c)
 
--- "PDIR: a not below M is FMEM with vadr = a; low twelve bits drop"; `old` is the record before the fetch, c has pc moved on
+-- "PDIR: a not below M is FMEM with vadr = a; low twelve bits drop"; "PDIR's own fault counts as address beyond memory"; `old` is the record before the fetch, c has pc moved on
 abbrev pub directed : Cpu → Tree Final
 directed c = final c [] (setSpace (withPdir (cut 4096 (c .regs .a)) (c .space)))
 
 unfoldable pub pdirTree : ℕ → Cpu → Cpu → Tree Final
 unfolding faultTree
-pdirTree size old c = if ltb (c .regs .a) size then directed c else faultTree old (record { code = FMEM; address = c .regs .a }) (nextPc old)
+pdirTree size old c = if ltb (c .regs .a) size then directed c else faultTree old (record { code = FMEM; cause = AddressBeyondMemory; address = c .regs .a }) (nextPc old)
 
 -- "SPAG: paging = (a ≠ 0)"; c has pc moved on
 abbrev pub spagTree : Cpu → Tree Final

@@ -1,5 +1,5 @@
--- Document 01, "Traps", and document 02, item 1: delivery, and the stops. c is the record before the fetch or delivery: its count is raised, and a denied access
--- has set vadr.
+-- Document 01, "Traps", and document 02, items 1 and 4: delivery, and the stops. c is the record before the fetch or delivery: its count is raised, and a
+-- denied access has set vadr and the cause.
 use Prim.Native.Nat.{ℕ}
 use mathlib.Core.Bool.{false}
 use mathlib.Core.List.{List, [], _∷_}
@@ -10,7 +10,7 @@ use Rattle.paging.specs.TrapCode.{USER}
 use Rattle.rules.specs.declared.Stop.the-variants.{Masked, NoFrame}
 use Rattle.rules.specs.declared.Cpu.{Cpu}
 use Rattle.rules.specs.declared.Pending.{Pending}
-use Rattle.rules.specs.Record.{withSp, withPc, withRegs, withSystem, withStop, withVadr, withUsp, withUser, withIena, putPending}
+use Rattle.rules.specs.Record.{withSp, withPc, withRegs, withSystem, withStop, withFault, withUsp, withUser, withIena, putPending}
 use Rattle.rules.specs.Tree.{Reply, got, denied, Tree, ask, done, slots}
 
 -- what a step does beyond the record and memory: nothing; PDIR or SPAG set the address space; a trap frame is delivered, with its code; a byte goes
@@ -69,7 +69,7 @@ trapTree c code pc = if c .system .iena then deliverTree c (c .clock .pending) c
 abbrev pub nextPc : Cpu → ℕ
 nextPc c = sum (c .regs .pc) 4
 
--- a denied access sets vadr
+-- a denied access sets vadr and the cause; a refused slot, above, sets neither
 unfoldable pub faultTree : Cpu → Fault → ℕ → Tree Final
 unfolding trapTree
-faultTree c f pc = trapTree (withVadr (f .address) c) (f .code) pc
+faultTree c f pc = trapTree (withFault f c) (f .code) pc

@@ -1,8 +1,9 @@
 // Document 01, "The record and the loaded program", and document 02, item 1: the record, in groups by who writes them.
 ghost use mathlib.Core.Path.{_≡_};
-ghost use Rattle.rules.specs.Record.{stopNumber, isRunning};
+ghost use Rattle.rules.specs.Record.{stopNumber, causeNumber, isRunning};
 ghost use Rattle.rules.specs.Clock.{interruptCode};
 ghost use Rattle.rules.specs.Run.{runNumber, isAccepted};
+use paging::Cause;
 use paging::Entry;
 use paging::Space;
 
@@ -51,13 +52,20 @@ pub enum Stop {
     NoFrame,
 }
 
-// The record without the page buffer. `vadr` is the faulting address, `written` the count of console bytes.
+// The cause of the latest fault: none at first.
+pub enum LastCause {
+    None,
+    Of(Cause),
+}
+
+// The record without the page buffer. `written` is the count of console bytes.
 pub struct Cpu {
     pub regs: Regs,
     pub clock: Clock,
     pub vadr: u32,
     pub space: Space,
     pub system: System,
+    pub cause: LastCause,
     pub stop: Stop,
     pub written: usize,
 }
@@ -117,8 +125,26 @@ pub fn stop_number(stop: Stop) -> u32
     }
 }
 
+// The number of a cause.
+pub fn cause_number(cause: LastCause) -> u32
+    ensures { λ r. ⌜ r ≡ causeNumber cause ⌝ }
+{
+    match cause {
+        LastCause::None => 0,
+        LastCause::Of(c) => match c {
+            Cause::AddressBeyondMemory => 1,
+            Cause::DirectoryAbsent => 2,
+            Cause::DirectoryBeyondMemory => 3,
+            Cause::TableAbsent => 4,
+            Cause::NoUserRight => 5,
+            Cause::NoWriteRight => 6,
+            Cause::FrameBeyondMemory => 7,
+        },
+    }
+}
+
 // The trap code of an interrupt.
-pub fn interrupt_code(i: Interrupt) -> u32
+pub fn interrupt_code(i: Interrupt) -> u16
     ensures { λ r. ⌜ r ≡ interruptCode i ⌝ }
 {
     match i {

@@ -8,6 +8,7 @@ use lib.ListN.{length}
 use lib.Dec.{eqb}
 use borrow.Author.Tests.{lt-ltb, le-ltb}
 use Rattle.word.specs.Word.{cut}
+use Rattle.paging.specs.declared.Cause.the-variants.{AddressBeyondMemory}
 use Rattle.paging.specs.TrapCode.{FMEM}
 use Rattle.buffer.specs.Held.{Buffer}
 use Rattle.mmu.specs.Good.{Good}
@@ -36,10 +37,10 @@ module _ (c : Cpu) {m con l : List ℕ} where
 
   -- "PDIR: a not below M is FMEM with vadr = a"
   pub pdir-fault : {n : ℕ} {x : Cpu} {m′ l′ : List ℕ} → length m ≤ c .regs .a → n ≡ nextPc c
-      → Finishes (faultTree c (record { code = FMEM; address = c .regs .a }) n) c m con l x m′ con l′
+      → Finishes (faultTree c (record { code = FMEM; cause = AddressBeyondMemory; address = c .regs .a }) n) c m con l x m′ con l′
       → Finishes (pdirTree (length m) c (movedOn c)) c m con l x m′ con l′
   unfolding pdirTree
-  pdir-fault h p f = finishes-else _ _ (le-ltb _ _ h) (at-next (faultTree c (record { code = FMEM; address = c .regs .a })) c p f)
+  pdir-fault h p f = finishes-else _ _ (le-ltb _ _ h) (at-next (faultTree c (record { code = FMEM; cause = AddressBeyondMemory; address = c .regs .a })) c p f)
 
 -- "SPAG: paging = (a ≠ 0)"
 pub spag-set : (n : Cpu) {m con l : List ℕ} {x : Cpu} {l′ : List ℕ} → keptIn l′ ≡ [] → Buffer l′ → Good (length m) (n .space .pdir) l

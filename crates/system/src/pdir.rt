@@ -7,6 +7,7 @@ ghost use Rattle.mmu.specs.Good.{Good};
 ghost use Rattle.rules.specs.System.{pdirTree};
 ghost use Rattle.contracts.specs.Contract.{Finishes};
 ghost use Rattle.system.specs.Moved.{movedOn};
+use paging::Cause;
 use paging::Fault;
 use rules::Cpu;
 
@@ -24,6 +25,7 @@ pub fn pdir(c: Cpu, n: Cpu, mem: &mut [u8], tlb: &mut [u64], hint: &mut [u8; 256
     }
     let f = Fault {
         code: paging::FMEM,
+        cause: Cause::AddressBeyondMemory,
         address: a,
     };
     trap::fault(c, f, trap::next_pc(c), mem, tlb, hint)

@@ -14,7 +14,7 @@ use Rattle.mmu.specs.Translates.{Translates}
 use Rattle.rules.specs.declared.Cpu.{Cpu}
 use Rattle.rules.specs.declared.Pending.{Pending}
 use Rattle.rules.specs.declared.Stop.the-variants.{Masked, NoFrame}
-use Rattle.rules.specs.Record.{withStop, withVadr, putPending}
+use Rattle.rules.specs.Record.{withStop, withFault, putPending}
 use Rattle.rules.specs.Tree.{ask, slots, slot}
 use Rattle.rules.specs.Step.{spaceAfter}
 use Rattle.rules.specs.Trap.{ended, kernelSp, codeOf, entered, framed, deliverTree, trapTree, faultTree}
@@ -66,9 +66,9 @@ module _ (c : Cpu) (code pc : ℕ) {m con l : List ℕ} {x : Cpu} where
   trap-masked f e g =
       subst (λ b. Finishes (if b then deliverTree c (c .clock .pending) code pc else ended (withStop Masked c)) c m con l x m con l) (sym e) (finishes-ended f g)
 
--- ---- a denied access sets vadr
+-- ---- a denied access sets vadr and the cause
 
-pub fault-trapped : {c y : Cpu} (f : Fault) (pc : ℕ) {m con l : List ℕ} {x : Cpu} {m′ con′ l′ : List ℕ} → y ≡ withVadr (f .address) c
+pub fault-trapped : {c y : Cpu} (f : Fault) (pc : ℕ) {m con l : List ℕ} {x : Cpu} {m′ con′ l′ : List ℕ} → y ≡ withFault f c
     → Finishes (trapTree y (f .code) pc) y m con l x m′ con′ l′ → Finishes (faultTree c f pc) c m con l x m′ con′ l′
 unfolding faultTree
 fault-trapped f pc {m} {con} {l} {x} {m′} {con′} {l′} e h =

@@ -5,7 +5,7 @@ ghost use Prim.Native.Nat.{ℕ};
 ghost use lib.ListN.{length};
 ghost use Rattle.mmu.specs.Good.{Good};
 ghost use Rattle.rules.specs.declared.Stop.the-variants.{Masked, NoFrame};
-ghost use Rattle.rules.specs.Record.{withStop, withVadr, putPending};
+ghost use Rattle.rules.specs.Record.{withStop, withFault, putPending};
 ghost use Rattle.rules.specs.Trap.{kernelSp, codeOf, savedUsp, entered as enteredOf, nextPc, deliverTree, trapTree, faultTree};
 ghost use Rattle.contracts.specs.Contract.{Finishes};
 use memory::Size;
@@ -13,6 +13,7 @@ use paging::Access;
 use paging::Answer;
 use paging::Fault;
 use rules::Cpu;
+use rules::LastCause;
 use rules::Pending;
 use rules::Stop;
 
@@ -25,12 +26,14 @@ pub fn stopped(c: Cpu, s: Stop) -> Cpu
     let clock = c.clock;
     let space = c.space;
     let system = c.system;
+    let cause = c.cause;
     Cpu {
         regs,
         clock,
         vadr: c.vadr,
         space,
         system,
+        cause,
         stop: s,
         written: c.written,
     }
@@ -43,12 +46,26 @@ pub fn next_pc(c: Cpu) -> u32
     word::sum(c.regs.pc, 4)
 }
 
-fn with_vadr(c: Cpu, address: u32) -> Cpu
-    ensures { λ x. ⌜ x ≡ withVadr address c ⌝ }
+// A fault sets vadr and the cause.
+fn with_fault(c: Cpu, f: Fault) -> Cpu
+    ensures { λ x. ⌜ x ≡ withFault f c ⌝ }
 {
-    let mut n = c;
-    n.vadr = address;
-    n
+    let regs = c.regs;
+    let clock = c.clock;
+    let space = c.space;
+    let system = c.system;
+    let stop = c.stop;
+    let cause = f.cause;
+    Cpu {
+        regs,
+        clock,
+        vadr: f.address,
+        space,
+        system,
+        cause: LastCause::Of(cause),
+        stop,
+        written: c.written,
+    }
 }
 
 // The stack of the trap.
@@ -70,13 +87,13 @@ fn saved_usp(c: Cpu) -> u32
     c.system.usp
 }
 
-fn trap_code(c: Cpu, code: u32) -> u32
+fn trap_code(c: Cpu, code: u16) -> u32
     ensures { λ x. ⌜ x ≡ codeOf c code ⌝ }
 {
     if c.system.user {
-        return word::sum(code, paging::USER);
+        return word::sum(code as u32, paging::USER);
     }
-    code
+    code as u32
 }
 
 // The record in the trap handler; `left` is what stays pending.
@@ -119,7 +136,7 @@ fn no_frame(c: Cpu) -> Cpu
 pub fn deliver(
     c: Cpu,
     left: Pending,
-    code: u32,
+    code: u16,
     pc: u32,
     mem: &mut [u8],
     tlb: &mut [u64],
@@ -148,7 +165,7 @@ pub fn deliver(
 // A fault without an address, or TRAP.
 pub fn trap(
     c: Cpu,
-    code: u32,
+    code: u16,
     pc: u32,
     mem: &mut [u8],
     tlb: &mut [u64],
@@ -175,5 +192,5 @@ pub fn fault(
     requires { ⌜ Good (length (now mem)) (c .space .pdir) (now tlb) ⌝ }
     ensures { λ x. ⌜ ((con : List ℕ) → Finishes (faultTree c f pc) c (now (mem .entry)) con (now (tlb .entry)) x (now (mem .exit)) con (now (tlb .exit))) ⌝ }
 {
-    trap(with_vadr(c, f.address), f.code, pc, mem, tlb, hint)
+    trap(with_fault(c, f), f.code, pc, mem, tlb, hint)
 }

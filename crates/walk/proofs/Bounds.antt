@@ -17,7 +17,7 @@ use Rattle.walk.proofs.Marks.{length-mark}
 
 -- a frame that is found is one of a memory of n bytes
 unfoldable pub FrameIn : ℕ → Found → Type 0
-FrameIn n (fault c) = Unit {0}
+FrameIn n (fault code cause) = Unit {0}
 FrameIn n (found f u w da ta) = f < n / 4096
 
 module _ (n : ℕ) (whole : n % 4096 ≡ 0) where
@@ -26,18 +26,18 @@ module _ (n : ℕ) (whole : n % 4096 ≡ 0) where
   in-frame true es m dw tw da ta e = omega (arith, ltb-true (cut 4096 tw) n e)
   in-frame false es m dw tw da ta e = tt
 
-  in-table : (b : Bool) (es : List Event) (m : List ℕ) (dw tw da ta : ℕ) (k : Access) → length m ≡ n
-      → FrameIn n (walkTable b es m dw tw da ta k .found)
+  in-table : (b : Bool) (es : List Event) (m : List ℕ) (dw tw da ta : ℕ) (k : Access) (user : Bool) → length m ≡ n
+      → FrameIn n (walkTable b es m dw tw da ta k user .found)
   unfolding walkTable FrameIn
-  in-table true es m dw tw da ta k h =
+  in-table true es m dw tw da ta k user h =
       in-frame (ltb (cut 4096 tw) (length m)) (es ++ markEvents k tw ta) (markFor k m ta) dw tw da ta (ap (λ (x : ℕ). ltb (cut 4096 tw) x) (sym h))
-  in-table false es m dw tw da ta k h = tt
+  in-table false es m dw tw da ta k user h = tt
 
   in-below : (b : Bool) (es : List Event) (m : List ℕ) (dw da page : ℕ) (k : Access) (user : Bool) → length m ≡ n
       → FrameIn n (walkBelow b es m dw da page k user .found)
   unfolding walkBelow FrameIn
   in-below true es m dw da page k user h =
-      in-table (allows dw (loadN 4 m (tabAt dw page)) k user) es m dw (loadN 4 m (tabAt dw page)) da (tabAt dw page) k h
+      in-table (allows dw (loadN 4 m (tabAt dw page)) k user) es m dw (loadN 4 m (tabAt dw page)) da (tabAt dw page) k user h
   in-below false es m dw da page k user h = tt
 
   in-dir : (b : Bool) (m : List ℕ) (dw da page : ℕ) (k : Access) (user : Bool) → length m ≡ n → FrameIn n (walkDir b m dw da page k user .found)

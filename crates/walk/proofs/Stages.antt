@@ -8,8 +8,10 @@ use borrow.Author.Tests.{lt-ltb, le-ltb}
 use Rattle.word.specs.Word.{cut}
 use Rattle.memory.specs.Memory.{loadN}
 use Rattle.paging.specs.declared.Access.{Access}
+use Rattle.paging.specs.declared.Cause.{Cause}
+use Rattle.paging.specs.declared.Cause.the-variants.{DirectoryAbsent, DirectoryBeyondMemory, FrameBeyondMemory}
 use Rattle.paging.specs.TrapCode.{FMEM, pageFault}
-use Rattle.paging.specs.Walk.{bit, mark, markFor, allows, walkFrame, walkTable, walkBelow, walkDir, walk, dirAt, tabAt}
+use Rattle.paging.specs.Walk.{bit, mark, markFor, allows, refusedBy, walkFrame, walkTable, walkBelow, walkDir, walk, dirAt, tabAt}
 use Rattle.walk.specs.declared.PageWalk.{PageWalk}
 use Rattle.walk.specs.declared.PageWalk.the-variants.{Mapped, Faulted}
 use Rattle.walk.specs.Found.{foundBy, walkResult, walkedBy, FrameWalk, TableWalk}
@@ -18,7 +20,7 @@ use Rattle.walk.proofs.Marks.{length-mark, length-mark-for}
 -- ---- the frame, in a memory with the marks
 
 module _ (m : List ℕ) (dir table at : ℕ) where
-  pub frame-beyond : length m ≤ cut 4096 table → FrameWalk dir table at m (Faulted FMEM)
+  pub frame-beyond : length m ≤ cut 4096 table → FrameWalk dir table at m (Faulted FMEM FrameBeyondMemory)
   unfolding walkedBy foundBy walkFrame
   frame-beyond h es da = rw (le-ltb _ _ h)
 
@@ -30,9 +32,9 @@ module _ (m : List ℕ) (dir table at : ℕ) where
 -- ---- the table word
 
 module _ (m : List ℕ) (dir at : ℕ) (k : Access) (user : Bool) {t : ℕ} {ok : Bool} (p : t ≡ loadN 4 m at) (q : ok ≡ allows dir t k user) where
-  pub table-refused : {c : ℕ} → ok ≡ false → c ≡ pageFault k → TableWalk dir at k user m (Faulted c) m
+  pub table-refused : {c : ℕ} {x : Cause} → ok ≡ false → c ≡ pageFault k → x ≡ refusedBy dir t user → TableWalk dir at k user m (Faulted c x) m
   unfolding walkedBy foundBy walkTable
-  table-refused e c es da = rw (← p, ← q, e, c)
+  table-refused e c x es da = rw (← p, ← q, e, c, x)
 
   pub table-allowed : {r : PageWalk} {m′ : List ℕ} → ok ≡ true → m′ ≡ markFor k m at → FrameWalk dir t at m′ r → TableWalk dir at k user m r m′
   unfolding walkTable
@@ -42,12 +44,12 @@ module _ (m : List ℕ) (dir at : ℕ) (k : Access) (user : Bool) {t : ℕ} {ok 
 
 module _ (m : List ℕ) (pdir page : ℕ) (k : Access) (user : Bool) {d : ℕ} {ok : Bool}
     (p : d ≡ loadN 4 m (pdir + 4 * (page / 1024))) (q : ok ≡ bit 1 d) where
-  pub dir-absent : {c : ℕ} → ok ≡ false → c ≡ pageFault k → walkResult (Faulted c) m ≡ walkedBy (walk m pdir page k user)
+  pub dir-absent : {c : ℕ} → ok ≡ false → c ≡ pageFault k → walkResult (Faulted c DirectoryAbsent) m ≡ walkedBy (walk m pdir page k user)
   unfolding walkedBy foundBy walk walkDir dirAt
   dir-absent e c = rw (← p, ← q, e, c)
 
   module _ {m′ : List ℕ} (e : ok ≡ true) (g : m′ ≡ mark 32 m (pdir + 4 * (page / 1024))) where
-    pub dir-beyond : length m′ ≤ cut 4096 d → walkResult (Faulted FMEM) m′ ≡ walkedBy (walk m pdir page k user)
+    pub dir-beyond : length m′ ≤ cut 4096 d → walkResult (Faulted FMEM DirectoryBeyondMemory) m′ ≡ walkedBy (walk m pdir page k user)
     unfolding walkedBy foundBy walk walkDir walkBelow dirAt
     dir-beyond l = rw (← p, ← q, e, ← length-mark m (pdir + 4 * (page / 1024)) 32, ← g, le-ltb _ _ l)
 

@@ -20,7 +20,7 @@ isMark v = eqb v 32 || eqb v 64
 
 -- a finding without the addresses of the words read
 unfoldable pub foundBy : Found → PageWalk
-foundBy (fault c) = Faulted c
+foundBy (fault code cause) = Faulted code cause
 foundBy (found f u w da ta) = Mapped f u w
 
 -- a finding with the memory after it
@@ -44,4 +44,4 @@ FrameWalk dir table at m r =
 
 abbrev pub TableWalk : (dir at : ℕ) → Access → Bool → List ℕ → PageWalk → List ℕ → Type 0
 TableWalk dir at kind user m r m′ =
-    (es : List Event) (da : ℕ) → walkResult r m′ ≡ walkedBy (walkTable (allows dir (loadN 4 m at) kind user) es m dir (loadN 4 m at) da at kind)
+    (es : List Event) (da : ℕ) → walkResult r m′ ≡ walkedBy (walkTable (allows dir (loadN 4 m at) kind user) es m dir (loadN 4 m at) da at kind user)

@@ -4,21 +4,22 @@ ghost use mathlib.Core.Bool.{true};
 ghost use Prim.Native.Nat.{_+_, _<_, _≤_};
 ghost use lib.ListN.{length};
 ghost use Rattle.paging.specs.TrapCode.{pageFault};
-ghost use Rattle.paging.specs.Walk.{bit, mark, markFor, userOk, writeOk, allows, walk};
+ghost use Rattle.paging.specs.Walk.{bit, mark, markFor, userOk, writeOk, allows, refusedBy, walk};
 ghost use Rattle.walk.specs.Directory.{Directory};
 ghost use Rattle.walk.specs.Found.{isMark, walkResult, walkedBy, FrameWalk, TableWalk};
 use paging::Access;
+use paging::Cause;
 
 // What a page table walk finds.
 pub enum PageWalk {
     // The frame's number, with the user and the write right.
     Mapped { frame: u32, user: bool, write: bool },
-    // The code of a fault.
-    Faulted(u32),
+    // The code of a fault, and its cause.
+    Faulted(u16, Cause),
 }
 
 // The page fault of an access.
-fn page_fault(kind: Access) -> u32
+fn page_fault(kind: Access) -> u16
     ensures { λ r. ⌜ r ≡ pageFault kind ⌝ }
 {
     match kind {
@@ -80,13 +81,28 @@ fn allows(dir: u32, table: u32, kind: Access, user: bool) -> bool
     bit(1, table) & user_ok(dir, table, user) & write_ok(dir, table, kind)
 }
 
+// Why a table word allows no access.
+fn refused_by(dir: u32, table: u32, user: bool) -> Cause
+    ensures { λ r. ⌜ r ≡ refusedBy dir table user ⌝ }
+{
+    let present = bit(1, table);
+    if !present {
+        return Cause::TableAbsent;
+    }
+    let ok = user_ok(dir, table, user);
+    if !ok {
+        return Cause::NoUserRight;
+    }
+    Cause::NoWriteRight
+}
+
 // The frame of the table word at `at`, which is marked by now.
 fn walk_frame(mem: &[u8], at: usize, dir: u32, table: u32) -> PageWalk
     requires { ⌜ at + 4 ≤ length (now mem) ⌝ }
     ensures { λ r. ⌜ FrameWalk dir table at (now (mem .entry)) r ⌝ }
 {
     if (table / 4096 * 4096) as usize >= mem.len() {
-        return PageWalk::Faulted(paging::FMEM);
+        return PageWalk::Faulted(paging::FMEM, Cause::FrameBeyondMemory);
     }
     let marked = memory::load4(mem, at);
     PageWalk::Mapped {
@@ -104,7 +120,7 @@ fn walk_table(mem: &mut [u8], at: usize, dir: u32, kind: Access, user: bool) -> 
     let table = memory::load4(mem, at);
     let ok = allows(dir, table, kind, user);
     if !ok {
-        return PageWalk::Faulted(page_fault(kind));
+        return PageWalk::Faulted(page_fault(kind), refused_by(dir, table, user));
     }
     mark_for(mem, at, kind);
     walk_frame(mem, at, dir, table)
@@ -119,12 +135,12 @@ pub fn walk(mem: &mut [u8], pdir: u32, page: u32, kind: Access, user: bool) -> P
     let dir = memory::load4(mem, dir_at);
     let present = bit(1, dir);
     if !present {
-        return PageWalk::Faulted(page_fault(kind));
+        return PageWalk::Faulted(page_fault(kind), Cause::DirectoryAbsent);
     }
     mark(mem, dir_at, 32);
     let table = dir / 4096 * 4096;
     if table as usize >= mem.len() {
-        return PageWalk::Faulted(paging::FMEM);
+        return PageWalk::Faulted(paging::FMEM, Cause::DirectoryBeyondMemory);
     }
     walk_table(mem, (table + 4 * (page % 1024)) as usize, dir, kind, user)
 }

@@ -11,6 +11,7 @@ pub mod Stops
 pub mod Traps
 pub mod Interrupts
 pub mod Pages
+pub mod Causes
 pub mod Entries
 pub mod Loading
 pub mod Refusals

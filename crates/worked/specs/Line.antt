@@ -7,7 +7,7 @@ use Rattle.word.specs.Word.{if_then_else_}
 use Rattle.paging.specs.Translate.{Translator, buffered, reader}
 use Rattle.rules.specs.declared.Cpu.{Cpu}
 use Rattle.rules.specs.declared.Key.{Key}
-use Rattle.rules.specs.Record.{stopNumber}
+use Rattle.rules.specs.Record.{stopNumber, causeNumber}
 use Rattle.rules.specs.Arithmetic.{flag}
 use Rattle.rules.specs.Run.{Ran, runNumber, reported}
 use Rattle.worked.specs.Opened.{ranBy}
@@ -66,6 +66,10 @@ paging s = flag (s .cpu .space .paging)
 
 abbrev pub vadr : Found → ℕ
 vadr s = s .cpu .vadr
+
+-- document 02's cause, by its number
+abbrev pub cause : Found → ℕ
+cause s = causeNumber (s .cpu .cause)
 
 abbrev pub timer : Found → ℕ
 timer s = s .cpu .clock .timer

@@ -12,7 +12,7 @@ use Rattle.rules.specs.Load.{Loaded, load}
 use Rattle.worked.specs.Start.{bytesOfAll, zeros}
 use Rattle.worked.specs.Opened.{ranBy}
 use Rattle.worked.specs.Line.{Found, found, Fact, _is_, All, answer, steps, a, b, c, sp, pc, count}
-use Rattle.worked.specs.Line.{usp, ksp, ivec, pdir, paging, vadr, timer, timeout, kbchar, taken, user, iena, waiting, stop, written}
+use Rattle.worked.specs.Line.{usp, ksp, ivec, pdir, paging, vadr, cause, timer, timeout, kbchar, taken, user, iena, waiting, stop, written}
 use Rattle.worked.specs.Edge.{Edge, _gives_, Edges, end, _and_}
 
 -- "P1 and HALT, entry 0, bss 0, data start 12"
@@ -37,7 +37,7 @@ foundIn l = record { answer = loadNumber (l .answer); steps = 0; cpu = l .machin
 abbrev recordIs : (sp pc kbchar : ℕ) → List Fact
 recordIs x y z =
     a is 0 ∷ b is 0 ∷ c is 0 ∷ sp is x ∷ usp is 0 ∷ ksp is 0 ∷ pc is y ∷ ivec is 0 ∷ pdir is 0 ∷ vadr is 0 ∷ timer is 0 ∷ timeout is 0 ∷ kbchar is z
-    ∷ user is 0 ∷ iena is 0 ∷ paging is 0 ∷ waiting is 0 ∷ stop is 0 ∷ count is 0 ∷ taken is 0 ∷ written is 0 ∷ []
+    ∷ user is 0 ∷ iena is 0 ∷ paging is 0 ∷ waiting is 0 ∷ stop is 0 ∷ cause is 0 ∷ count is 0 ∷ taken is 0 ∷ written is 0 ∷ []
 
 pub record-is-fresh : All (foundIn (loaded 4096 file)) (recordIs 4096 0 0xffffffff)
 unfolding loaded

@@ -8,14 +8,14 @@ use Rattle.rules.specs.Record.{putA}
 use Rattle.worked.specs.Start.{fresh, putB, putSp, putPc, putKsp, putIvec, inUser, enabled, pagedFrom, _holds_, memory}
 use Rattle.worked.specs.Line.{a, sp, pc, usp, vadr, user, iena, stop, word, _is_, Line, line, Both, Hold, done, _also_}
 
-abbrev kernel : Cpu
+abbrev pub kernel : Cpu
 kernel = pagedFrom 0 (enabled (putIvec 0x1180 (putPc 0x1100 (putSp 0x1200 fresh))))
 
-abbrev program : Cpu
+abbrev pub program : Cpu
 program = inUser (putKsp 0x1200 (putSp 0x1400 kernel))
 
 -- the words of pages 0 to 3, an instruction at 0x1100, and a frame's place that holds other bytes
-abbrev tables : (page2 page3 instruction : ℕ) → List ℕ
+abbrev pub tables : (page2 page3 instruction : ℕ) → List ℕ
 tables two three w = memory 4096 (0 holds (0x07 ∷ 0x07 ∷ two ∷ three ∷ []) ∷ 0x100 holds (w ∷ []) ∷ 0x1f0 holds (0xffffffff ∷ []) ∷ 0x300 holds (0x77 ∷ []) ∷ [])
 
 abbrev pub lines : List Line

@@ -3,11 +3,12 @@ use Prim.Native.Nat.{ℕ, zero, suc, _+_, _-_, _*_, _/_, _%_}
 use mathlib.Core.Bool.{Bool, true, false}
 use mathlib.Core.List.{List, [], _∷_, _++_}
 use lib.ListN.{length, replicate}
+use Rattle.paging.specs.declared.Cause.{Cause}
 use Rattle.paging.specs.declared.Entry.{Entry}
 use Rattle.rules.specs.declared.Cpu.{Cpu}
 use Rattle.rules.specs.declared.Key.{Key}
 use Rattle.rules.specs.declared.Stop.{Stop}
-use Rattle.rules.specs.Record.{withB, withC, withSp, withPc, withCount, withRegs, withClock, withPdir, withPaging, withSpace}
+use Rattle.rules.specs.Record.{withB, withC, withSp, withPc, withCount, withRegs, withClock, withPdir, withPaging, withSpace, withFault}
 use Rattle.rules.specs.Record.{withSystem, withStop, withWritten, withTimer, withTimeout, withTaken, withPending, withUsp, withKsp, withIvec, withUser, withIena, withWaiting}
 use Rattle.rules.specs.Load.{freshCpu}
 
@@ -75,6 +76,10 @@ pagedFrom x c = putSpace true x c
 
 abbrev pub stoppedFor : Stop → Cpu → Cpu
 stoppedFor x c = withStop x c
+
+-- after a fault: its cause, and its address in vadr
+abbrev pub afterFault : Cause → ℕ → Cpu → Cpu
+afterFault x address c = withFault (record { code = 0; cause = x; address = address }) c
 
 -- a key: its step number and its byte
 abbrev pub key : (step byte : ℕ) → Key

@@ -1,4 +1,4 @@
--- The flags and the stop reason are numbers by their own functions; the rest is the record's.
+-- The flags, the stop reason and the cause are numbers by their own functions; the rest is the record's.
 use borrow.Author.Needs.{needs}
 use Rattle.record_numbers.proofs.numbers_of.Statement.{statement}
 use Rattle.record_numbers.proofs.numbers_of.Tie as tie
@@ -14,5 +14,5 @@ numbers-of-spec =
     (λ c. search needs) (λ c. search needs) (λ c. search needs) (λ c. search needs) (λ c. search needs)
     (λ c. search needs) (λ c. search needs) (λ c. search needs) (λ c κs. search needs) (λ c κs. search needs)
     (λ c κs. search needs) (λ c κs. search needs) (λ c κs. search needs) (λ c κs. search needs) (λ c κs. search needs)
-    (λ c. search needs)
+    (λ c. search needs) (λ c κs. search needs) (λ c. search needs)
     returns)

@@ -1,4 +1,4 @@
--- Each number is cut to its width, as `recordBy` does; the stop reason is `stop_of`'s.
+-- Each number is cut to its width, as `recordBy` does; the stop reason is `stop_of`'s and the cause `cause_of`'s.
 use borrow.Author.Needs.{needs}
 use Rattle.rules.specs.Numbers.{recordBy}
 use Rattle.record_numbers.proofs.record_of.Statement.{statement}
@@ -6,7 +6,7 @@ use Rattle.record_numbers.proofs.record_of.Tie as tie
 
 returns : tie.Need-returns
 unfolding recordBy
-returns c = rw (c .stop-of .ensures)
+returns c = rw (c .before .cause-of .ensures, c .stop-of .ensures)
 
 pub record-of-spec : {M : Type 1} → statement M
 record-of-spec =
@@ -19,4 +19,5 @@ record-of-spec =
     (λ c. search needs) (λ c. search needs) (λ c. search needs) (λ c. search needs) (λ c. search needs)
     (λ c. search needs) (λ c. search needs) (λ c. search needs) (λ c. search needs) (λ c. search needs)
     (λ c. search needs) (λ c. search needs) (λ c. search needs) (λ c. search needs) (λ c κs. search needs)
+    (λ c. search needs) (λ c κs. search needs)
     returns)

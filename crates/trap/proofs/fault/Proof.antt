@@ -1,4 +1,4 @@
--- A trap from the record with vadr set, which keeps the directory (`fault-trapped`).
+-- A trap from the record with vadr and the cause set, which keeps the directory (`fault-trapped`).
 use borrow.Author.Needs.{needs}
 use Rattle.trap.proofs.Delivery.{fault-trapped}
 use Rattle.trap.proofs.fault.Statement.{statement}
@@ -7,14 +7,14 @@ use Rattle.trap.proofs.fault.Tie as tie
 trap-requires : tie.Need-trap-requires
 trap-requires c κs =
     let pre = c .before .before .before .before .before .before .pre in
-    let with-vadr = c .before .before .before .with-vadr in
-    rw (with-vadr .ensures) pre
+    let with-fault = c .before .before .before .with-fault in
+    rw (with-fault .ensures) pre
 
 returns : tie.Need-returns
 returns c =
-    let with-vadr = c .before .before .before .before .before .before .before .before .with-vadr in
+    let with-fault = c .before .before .before .before .before .before .before .before .with-fault in
     let trap = c .before .before .before .before .trap in
-    λ con. fault-trapped _ _ (with-vadr .ensures) (trap .ensures con)
+    λ con. fault-trapped _ _ (with-fault .ensures) (trap .ensures con)
 
 pub fault-spec : {M : Type 1} → statement M
 fault-spec = tie.close (tie.spec (λ c κs. search needs) trap-requires (λ c. search needs) (λ c. search needs) returns)

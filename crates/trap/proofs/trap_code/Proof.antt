@@ -6,5 +6,8 @@ use Rattle.trap.proofs.trap_code.Tie as tie
 returns : tie.Need-returns
 returns c = rw (c .sum .ensures, c .before .if1 .taken)
 
+returns-2 : tie.Need-returns-2
+returns-2 c = rw (c .if1 .left)
+
 pub trap-code-spec : {M : Type 1} → statement M
-trap-code-spec = tie.close (tie.spec (λ c κs. search needs) returns (λ c. search needs))
+trap-code-spec = tie.close (tie.spec (λ c κs. search needs) returns returns-2)

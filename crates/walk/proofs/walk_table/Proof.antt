@@ -7,8 +7,10 @@ use Rattle.walk.proofs.walk_table.Tie as tie
 
 returns : tie.Need-returns
 returns c =
-    let load4 = c .before .before .before .load4 in
-    table-refused _ _ _ _ _ (load4 .ensures) (c .before .before .allows .ensures) (not-true _ (c .before .if1 .taken)) (c .page-fault .ensures)
+    let load4 = c .before .before .before .before .load4 in
+    let allows = c .before .before .before .allows in
+    let if1 = c .before .before .if1 in
+    table-refused _ _ _ _ _ (load4 .ensures) (allows .ensures) (not-true _ (if1 .taken)) (c .before .page-fault .ensures) (c .refused-by .ensures)
 
 returns-2 : tie.Need-returns-2
 returns-2 c =
@@ -22,7 +24,7 @@ pub walk-table-spec : {M : Type 1} → statement M
 walk-table-spec =
     tie.close
     (tie.spec
-    (λ c κs. search needs) (λ c κs. search needs) (λ c κs. search needs) (λ c. search needs)
+    (λ c κs. search needs) (λ c κs. search needs) (λ c κs. search needs) (λ c κs. search needs) (λ c. search needs)
     returns
     (λ c κs. search needs) (λ c κs. search needs) (λ c. search needs)
     returns-2)
