@@ -1,4 +1,4 @@
-// Document 01, "Addresses": what walk, page buffer and translation speak of.
+// Document 01, "Addresses", and document 02, item 4: what walk, page buffer and translation speak of.
 ghost use mathlib.Core.Path.{_≡_};
 ghost use Rattle.paging.specs.Walk.{isWrite};
 

@@ -1,4 +1,4 @@
-// Document 01, "The record and the loaded program", and document 02, item 1: the record, in groups by who writes them.
+// Document 01, "The record and the loaded program", and document 02, items 1 and 4: the record, in groups by who writes them.
 ghost use mathlib.Core.Path.{_≡_};
 ghost use Rattle.rules.specs.Record.{stopNumber, causeNumber, isRunning};
 ghost use Rattle.rules.specs.Clock.{interruptCode};
@@ -58,7 +58,7 @@ pub enum LastCause {
     Of(Cause),
 }
 
-// The record without the page buffer. `written` is the count of console bytes.
+// The record without the page buffer. `vadr` is the faulting address, with `cause`, which takes no room where it stands; `written` is the count of console bytes.
 pub struct Cpu {
     pub regs: Regs,
     pub clock: Clock,

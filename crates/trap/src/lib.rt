@@ -1,4 +1,4 @@
-// Document 01, "Traps", and document 02, item 1: delivery, and the stops.
+// Document 01, "Traps", and document 02, items 1 and 4: delivery, and the stops.
 ghost use mathlib.Core.Path.{_≡_};
 ghost use mathlib.Core.List.{List};
 ghost use Prim.Native.Nat.{ℕ};

@@ -1,4 +1,4 @@
-// Document 01, "Addresses": the page table walk.
+// Document 01, "Addresses", and document 02, item 4: the page table walk.
 ghost use mathlib.Core.Path.{_≡_};
 ghost use mathlib.Core.Bool.{true};
 ghost use Prim.Native.Nat.{_+_, _<_, _≤_};
