@@ -57,17 +57,23 @@ fn play_load(case: &Load, mistake: Option<Mistake>) -> Played {
 }
 
 fn show(outcome: Outcome, record: &Record, memory: &[u8], console: &[u8]) -> Shown {
+    let mut list = vec![u64::from(outcome.answer), outcome.steps];
+    list.extend(shown_record(record));
+    Shown { numbers: list, memory: memory.to_vec(), console: console.to_vec() }
+}
+
+/// Items 5 to 7 of a line: what it has of a record.
+pub fn shown_record(record: &Record) -> Vec<u64> {
     let (regs, buffer) = (&record.regs, &record.buffer);
-    let mut list = vec![u64::from(outcome.answer), outcome.steps, regs.keys, regs.written];
-    let record = numbers(regs);
-    list.push(record.len() as u64);
-    list.extend(record);
+    let numbers = numbers(regs);
+    let mut list = vec![regs.keys, regs.written, numbers.len() as u64];
+    list.extend(numbers);
     list.push(u64::from(buffer.count));
     for entry in buffer.entries() {
         list.extend([u64::from(entry.page), u64::from(entry.frame)]);
         list.extend([u64::from(entry.user), u64::from(entry.write)]);
     }
-    Shown { numbers: list, memory: memory.to_vec(), console: console.to_vec() }
+    list
 }
 
 impl Shown {

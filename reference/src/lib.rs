@@ -26,6 +26,7 @@ pub mod mistake;
 pub mod mutants;
 pub mod opcodes;
 pub mod random;
+pub mod refusals;
 pub mod run;
 pub mod step;
 pub mod stored;

@@ -1,7 +1,7 @@
 //! Loading an executable. Document 01, "The record and the loaded program".
 
 use crate::mistake::Mistake;
-use crate::run::{is_bad_memory, lowest};
+use crate::refusals::{is_bad_memory, lowest};
 use crate::types::{Record, NO_KEY};
 use crate::words;
 

@@ -2,12 +2,8 @@
 
 use crate::machine::Machine;
 use crate::mistake::Mistake;
-use crate::types::{Entry, Key, Stop, CAPACITY, MAX_BUDGET, MAX_MEMORY, PAGE};
-
-/// Refusal 1, shared by run and load.
-pub fn is_bad_memory(length: usize) -> bool {
-    length == 0 || length % PAGE as usize != 0 || length > MAX_MEMORY
-}
+use crate::refusals::{lowest, Judged};
+use crate::types::{Key, Stop, MAX_BUDGET};
 
 /// Answer number and reported steps.
 #[derive(Clone, Copy, Debug, PartialEq, Eq)]
@@ -59,60 +55,27 @@ impl Machine {
             return 0;
         }
         let asked = self.pick(Mistake::BudgetLowHalf, budget & 0xffff_ffff, budget);
+        let judged = self.judged();
         let refusals = [
-            (1, self.is_bad_size()),
-            (2, self.is_bad_register()),
-            (3, self.is_bad_buffer()),
+            (1, judged.is_bad_size()),
+            (2, judged.is_bad_register()),
+            (3, judged.is_bad_buffer()),
             (4, self.is_bad_key_list(keys)),
-            (5, self.is_bad_console()),
+            (5, judged.is_bad_console()),
             (6, asked > MAX_BUDGET),
         ];
         lowest(&refusals, self.mistake)
     }
 
-    fn is_bad_size(&self) -> bool {
-        let half_pages = self.memory.len() % (PAGE as usize / 2) == 0 && !self.memory.is_empty();
-        is_bad_memory(self.memory.len()) && !(half_pages && self.makes(Mistake::MemoryByHalfPages))
-    }
-
-    fn is_bad_register(&self) -> bool {
-        let regs = &self.regs;
-        let judged = regs.paging || !self.makes(Mistake::PdirFreeUnpaged);
-        let multiples = [(regs.pc, 4), (regs.ivec, 4), (regs.sp, 8), (regs.usp, 8), (regs.ksp, 8)];
-        let uneven = |(nth, (value, of)): (usize, (u32, u32))| {
-            let loose = self.makes(Mistake::LooseField(nth as u8));
-            let unjudged = self.makes(Mistake::UnjudgedField(nth as u8));
-            value % (if loose { of / 2 } else { of }) != 0 && !unjudged
-        };
-        let even_pdir = self.pick(Mistake::LooseField(5), regs.pdir % 2048, regs.pdir % PAGE) == 0;
-        let beyond = regs.pdir as usize >= self.memory.len();
-        let marked = regs.iena && (regs.key_pending || regs.timer_pending);
-        multiples.into_iter().enumerate().any(uneven)
-            || (!even_pdir && judged)
-            || (beyond && judged)
-            || (marked && self.makes(Mistake::MarksJudged))
-            || (regs.count >= 1 << 63 && !self.makes(Mistake::UnjudgedField(5)))
-    }
-
-    /// The table reader has no buffer, so 3 never comes there.
-    fn is_bad_buffer(&self) -> bool {
-        let Some(buffer) = &self.buffer else { return false };
-        let count = self.pick(Mistake::CountLowByte, buffer.count % 256, buffer.count) as usize;
-        if count > CAPACITY && !self.makes(Mistake::GoodSlotsAboveCount) {
-            return true;
+    /// The record beside what is lent, for the refusals that need no more.
+    fn judged(&self) -> Judged<'_> {
+        Judged {
+            regs: &self.regs,
+            buffer: self.buffer.as_ref(),
+            memory: self.memory.len(),
+            console: self.console.len(),
+            mistake: self.mistake,
         }
-        let frames = self.memory.len() / PAGE as usize;
-        let bad = |entry: &Entry| {
-            (entry.page >= 1 << 20 && !self.makes(Mistake::PageUnchecked))
-                || (entry.frame as usize >= frames && !self.makes(Mistake::FrameUnchecked))
-        };
-        let counted = &buffer.slots[..count.min(CAPACITY)];
-        let entries = self.pick(Mistake::SlotsPastCount, &buffer.slots[..], counted);
-        let twice = |(at, entry): (usize, &Entry)| {
-            let first = self.pick(Mistake::TwiceAdjacentOnly, at.saturating_sub(1), 0);
-            entries[first..at].iter().any(|earlier| earlier.page == entry.page)
-        };
-        entries.iter().any(bad) || entries.iter().enumerate().any(twice)
     }
 
     /// The whole list is judged, taken keys included; equal numbers pass.
@@ -131,23 +94,5 @@ impl Machine {
             _ => pair[0].step > pair[1].step,
         };
         keys[first.min(last)..last].windows(2).any(falls)
-    }
-
-    fn is_bad_console(&self) -> bool {
-        let low = self.regs.written & 0xffff_ffff;
-        self.pick(Mistake::WrittenLowHalf, low, self.regs.written) > self.console.len() as u64
-    }
-}
-
-/// The first number whose refusal applies, or 0.
-pub fn lowest(refusals: &[(u32, bool)], mistake: Option<Mistake>) -> u32 {
-    let mut applying = refusals.iter().filter(|refusal| refusal.1).map(|refusal| refusal.0);
-    let first = applying.next().unwrap_or(0);
-    match mistake {
-        // Planted: the higher of two numbers is given where both apply.
-        Some(Mistake::Order(low, high)) if first == low => {
-            applying.find(|number| *number == high).unwrap_or(low)
-        }
-        _ => first,
     }
 }

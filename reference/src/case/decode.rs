@@ -4,7 +4,7 @@ use super::numbers::{registers, NAMES};
 use super::{Case, Load, RunInput, Runs, ALL_ENTRIES, KIND_LOAD, KIND_RUNS};
 use super::{MAX_CASE, MAX_CONSOLE, MAX_KEYS, MAX_MEMORY, MAX_RUNS};
 use crate::stream::{well_formed, within, Broken, Cursor, Stream};
-use crate::types::{Buffer, Entry, Key, Record, Registers, CAPACITY};
+use crate::types::{Key, Record, Registers, CAPACITY};
 
 /// The cases of a stream.
 pub fn cases(bytes: &[u8]) -> Stream<'_, Case> {
@@ -51,36 +51,11 @@ impl Cursor<'_> {
             regs: Registers { keys, written, ..regs },
             buffer: self.buffer(count as u32, slots)?,
         };
-        let memory = self.memory(memory_length, chunks)?;
+        let memory = self.chunked(memory_length, chunks)?;
         let mut console = vec![0; console_length];
         console[..given].copy_from_slice(self.take(given)?);
         let runs = (0..runs).map(|_| self.run()).collect::<Result<_, _>>()?;
         Ok(Runs { entries: entries as u32, memory, console, record, runs })
-    }
-
-    fn buffer(&mut self, count: u32, given: usize) -> Result<Buffer, Broken> {
-        let mut buffer = Buffer { count, ..Buffer::default() };
-        for slot in &mut buffer.slots[..given] {
-            let [page, frame, user, write] =
-                [self.get32()?, self.get32()?, self.get32()?, self.get32()?];
-            well_formed(user <= 1 && write <= 1)?;
-            *slot = Entry { page, frame, user: user == 1, write: write == 1, origin: None };
-        }
-        Ok(buffer)
-    }
-
-    /// Chunks rise and don't overlap.
-    fn memory(&mut self, length: usize, chunks: usize) -> Result<Vec<u8>, Broken> {
-        let mut memory = vec![0; length];
-        let mut free = 0;
-        for _ in 0..chunks {
-            let [start, length] = self.sizes()?;
-            well_formed(start >= free)?;
-            free = start + length;
-            let place = memory.get_mut(start..free).ok_or(Broken::Malformed)?;
-            place.copy_from_slice(self.take(length)?);
-        }
-        Ok(memory)
     }
 
     fn run(&mut self) -> Result<RunInput, Broken> {

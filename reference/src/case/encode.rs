@@ -1,12 +1,9 @@
 //! Writing a case in the format of FORMAT.md.
 
 use super::numbers::numbers;
+use super::parts::{chunks, put32, put64, put_chunks, put_length, put_slots, slots_to_give, used};
 use super::{Case, Load, RunInput, Runs, KIND_LOAD, KIND_RUNS};
 use super::{MAX_CASE, MAX_CONSOLE, MAX_KEYS, MAX_MEMORY, MAX_RUNS};
-use crate::types::{Buffer, Entry};
-
-/// Zero bytes that part two chunks; fewer are cheaper to write out.
-const GAP: usize = 8;
 
 /// The bytes of a case. Panics on one beyond the format's bounds.
 pub fn encode(case: &Case) -> Vec<u8> {
@@ -19,19 +16,6 @@ pub fn encode(case: &Case) -> Vec<u8> {
     let length = bytes.len() as u32;
     bytes[..4].copy_from_slice(&length.to_le_bytes());
     bytes
-}
-
-fn put32(bytes: &mut Vec<u8>, value: u32) {
-    bytes.extend_from_slice(&value.to_le_bytes());
-}
-
-fn put64(bytes: &mut Vec<u8>, value: u64) {
-    bytes.extend_from_slice(&value.to_le_bytes());
-}
-
-fn put_length(bytes: &mut Vec<u8>, length: usize, bound: usize) {
-    assert!(length <= bound, "{length} is beyond the format's {bound}");
-    put32(bytes, length as u32);
 }
 
 fn put_load(bytes: &mut Vec<u8>, load: &Load) {
@@ -61,16 +45,8 @@ fn put_runs(bytes: &mut Vec<u8>, case: &Runs) {
     let numbers = numbers(regs);
     put32(bytes, numbers.len() as u32);
     numbers.iter().for_each(|number| put64(bytes, *number));
-    for entry in slots {
-        for field in [entry.page, entry.frame, u32::from(entry.user), u32::from(entry.write)] {
-            put32(bytes, field);
-        }
-    }
-    for (start, end) in chunks {
-        put32(bytes, start as u32);
-        put32(bytes, (end - start) as u32);
-        bytes.extend_from_slice(&case.memory[start..end]);
-    }
+    put_slots(bytes, slots);
+    put_chunks(bytes, &case.memory, &chunks);
     bytes.extend_from_slice(console);
     for run in &case.runs {
         put_run(bytes, run);
@@ -84,31 +60,4 @@ fn put_run(bytes: &mut Vec<u8>, run: &RunInput) {
         bytes.push(key.byte);
     }
     put64(bytes, run.budget);
-}
-
-/// The slots up to the last that isn't all zero; the reader zeros the rest.
-fn slots_to_give(buffer: &Buffer) -> &[Entry] {
-    let blank = |entry: &Entry| Entry { origin: None, ..*entry } == Entry::default();
-    let given = buffer.slots.iter().rposition(|entry| !blank(entry));
-    &buffer.slots[..given.map_or(0, |last| last + 1)]
-}
-
-/// The length without trailing zeros.
-fn used(bytes: &[u8]) -> usize {
-    bytes.iter().rposition(|byte| *byte != 0).map_or(0, |last| last + 1)
-}
-
-/// The stretches of memory to write out, as (start, end), in rising order.
-fn chunks(memory: &[u8]) -> Vec<(usize, usize)> {
-    let mut chunks: Vec<(usize, usize)> = Vec::new();
-    for (at, byte) in memory.iter().enumerate() {
-        if *byte == 0 {
-            continue;
-        }
-        match chunks.last_mut() {
-            Some((_, end)) if at - *end < GAP => *end = at + 1,
-            _ => chunks.push((at, at + 1)),
-        }
-    }
-    chunks
 }

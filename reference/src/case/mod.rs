@@ -3,6 +3,7 @@
 pub mod decode;
 pub mod encode;
 pub mod numbers;
+pub mod parts;
 
 use crate::types::{Entry, Key, Record, Registers};
 use crate::words;
