@@ -1,4 +1,4 @@
-//! The commands on listings and on calls.
+//! The commands on listings, saved machines and calls.
 
 use super::{input, text, Done};
 use reference::calls::answer::expect;
@@ -7,6 +7,7 @@ use reference::calls::mutants::Judge;
 use reference::calls::stored::all;
 use reference::calls::{Call, KIND_LINES, KIND_READ};
 use reference::families::Family;
+use reference::line::{refused, resumed, saved};
 use reference::listing::list as listing;
 use reference::listing::mistake::{load_family, opcode_families, ListingMistake};
 use reference::listing::unlist::unlist as read_line;
@@ -40,6 +41,24 @@ pub fn unlist() -> Done {
         .map_err(text)?;
     }
     output.flush().map_err(text)
+}
+
+/// A machine saved after its run. Where the load is refused nothing is written
+/// but that.
+pub fn save() -> Done {
+    match saved(&input()?) {
+        Ok(file) => io::stdout().lock().write_all(&file).map_err(text),
+        Err(answer) => {
+            eprintln!("{}", refused(answer));
+            Ok(())
+        }
+    }
+}
+
+/// The line of a saved machine that runs on.
+pub fn resume() -> Done {
+    println!("{}", resumed(&input()?));
+    Ok(())
 }
 
 fn write_all(calls: impl Iterator<Item = Call>) -> Done {

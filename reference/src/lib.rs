@@ -28,6 +28,7 @@ pub mod opcodes;
 pub mod random;
 pub mod refusals;
 pub mod run;
+pub mod snapshot;
 pub mod step;
 pub mod stored;
 pub mod stream;

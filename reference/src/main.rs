@@ -12,7 +12,7 @@ use reference::compare::{compare, Question, Verdict};
 use reference::coverage::{Coverage, Due};
 use reference::expect::{expect, play};
 use reference::families::families;
-use reference::line::line;
+use reference::line::{line, line_by, Setup, BUDGET};
 use reference::line_files;
 use reference::mistake::Mistake;
 use reference::mutants::Judge;
@@ -20,6 +20,7 @@ use reference::random::executables::random_file;
 use reference::random::scene::{case, Purpose};
 use reference::stored::stored_set;
 use reference::stream::Broken;
+use reference::types::MAX_BUDGET;
 use std::fs;
 use std::io::{self, BufWriter, Read, Write};
 use std::ops::Range;
@@ -35,7 +36,9 @@ const USAGE: &str = "usage:
                                                 both machines over random runs
   reference write-stored                        the stored set, in the same bytes
   reference mutants < cases                     which cases tell planted mistakes apart
-  reference line < executable                   the run program's line
+  reference line [--budget B] < executable      the run program's line
+  reference save < executable                   its machine after the run, saved
+  reference resume < file                       the line of a saved machine that runs on
   reference random-file [--seed S] [--number N] random executable N of a seed
   reference random-files [--seed S] [--first F] [--count N]
                                                 many, each after its length (u32)
@@ -79,7 +82,9 @@ fn command(words: &[String]) -> Done {
         "compare" => print_comparison(seed, numbers),
         "write-stored" => write_all(stored_set().into_iter()),
         "mutants" => print_mutants(),
-        "line" => print_line(),
+        "line" => print_line(option(options, "--budget", BUDGET)?),
+        "save" => call_commands::save(),
+        "resume" => call_commands::resume(),
         "random-file" => print_file(seed, option(options, "--number", 0)?),
         "random-files" => print_files(seed, numbers),
         "write-files" => write_files(),
@@ -173,8 +178,11 @@ fn input() -> Result<Vec<u8>, String> {
     Ok(bytes)
 }
 
-fn print_line() -> Done {
-    println!("{}", line(&input()?));
+fn print_line(budget: u64) -> Done {
+    if budget > MAX_BUDGET {
+        return Err(format!("--budget is at most {MAX_BUDGET}"));
+    }
+    println!("{}", line_by(&Setup { budget, ..Setup::default() }, &input()?));
     Ok(())
 }
 

@@ -1,5 +1,5 @@
 //! Document 01's refusals of a record, "Numbers returned": 1, 2, 3 and 5, which
-//! need no more than what is lent, and which of several is given.
+//! runs and document 02's saved machines share, and which of several is given.
 
 use crate::mistake::Mistake;
 use crate::types::{Buffer, Entry, Record, Registers, CAPACITY, MAX_MEMORY, PAGE};

@@ -8,9 +8,14 @@ pub mod mutants;
 pub mod near;
 pub mod stored;
 
+use crate::types::Record;
+
 /// Bounds a reader with fixed buffers may rely on.
 pub const MAX_CALL: usize = 131_072;
 pub const MAX_LINES: usize = 8_193;
+pub const MAX_MEMORY: usize = 131_072;
+pub const MAX_CONSOLE: usize = 4_096;
+pub const MAX_FILE: usize = 139_264;
 
 /// Numbers of the kinds of call.
 pub const KIND_LINES: u32 = 1;
@@ -23,6 +28,25 @@ pub enum Call {
     Lines { first: u64, count: u32, file: Vec<u8> },
     /// A listed line read back.
     Read(Vec<u8>),
+}
+
+/// A machine to save into a file of `file_length` bytes of `fill`.
+#[derive(Clone, Debug, PartialEq, Eq)]
+pub struct Save {
+    pub record: Record,
+    pub memory: Vec<u8>,
+    pub console: Vec<u8>,
+    pub file_length: usize,
+    pub fill: u8,
+}
+
+/// A file to read into a memory and a console full of `fill`.
+#[derive(Clone, Debug, PartialEq, Eq)]
+pub struct Restore {
+    pub file: Vec<u8>,
+    pub memory_length: usize,
+    pub console_length: usize,
+    pub fill: u8,
 }
 
 impl Call {

@@ -1,5 +1,6 @@
-//! The record's numbers in the order of FORMAT.md, in a case and in a line
-//! alike. A further field of `Registers` gets its place in this list.
+//! The record's numbers in the order of FORMAT.md, in a case, in a line and in
+//! document 02's file of a saved machine alike. A further field of `Registers`
+//! gets its place in this list.
 
 use crate::types::{Cause, Registers, Stop};
 
@@ -11,6 +12,13 @@ macro_rules! numbers {
 
         pub fn numbers(regs: &Registers) -> Vec<u64> {
             vec![$(regs.$name.number(),)*]
+        }
+
+        /// The bytes that each takes in the file of a saved machine: "64 bits
+        /// take eight bytes, all else a word".
+        pub fn widths() -> Vec<usize> {
+            let regs = Registers::default();
+            vec![$(regs.$name.width(),)*]
         }
 
         /// `None` where there are not as many, or one is too large for its field.
@@ -34,6 +42,10 @@ numbers! {
 trait Field: Sized {
     fn number(&self) -> u64;
     fn field(number: u64) -> Option<Self>;
+
+    fn width(&self) -> usize {
+        4
+    }
 }
 
 impl Field for u32 {
@@ -51,6 +63,9 @@ impl Field for u64 {
     }
     fn field(number: u64) -> Option<u64> {
         Some(number)
+    }
+    fn width(&self) -> usize {
+        8
     }
 }
 

@@ -5,6 +5,7 @@ pub mod executables;
 pub mod files;
 mod interrupts;
 pub mod keys;
+pub mod machines;
 pub mod program;
 pub mod record;
 pub mod rng;

@@ -47,7 +47,13 @@ fn frames(rng: &mut Rng) -> u32 {
 }
 
 fn runs_case(rng: &mut Rng, number: u64, purpose: Purpose) -> Runs {
-    let memory_size = PAGE * frames(rng);
+    let frames = frames(rng);
+    runs_case_of(rng, number, frames, purpose)
+}
+
+/// A case of runs with a memory of so many frames.
+pub fn runs_case_of(rng: &mut Rng, number: u64, frames: u32, purpose: Purpose) -> Runs {
+    let memory_size = PAGE * frames;
     let mut memory = vec![0; memory_size as usize];
     let paging = rng.percent(75);
     let space = if paging || rng.percent(50) {
@@ -139,7 +145,7 @@ fn put_console_and_keys(rng: &mut Rng, case: &mut Runs) {
 }
 
 /// Breaks one thing a run is refused for.
-fn break_something(rng: &mut Rng, case: &mut Runs, purpose: Purpose) {
+pub fn break_something(rng: &mut Rng, case: &mut Runs, purpose: Purpose) {
     let length = case.memory.len();
     let buffer_too = purpose == Purpose::Any;
     let regs = &mut case.record.regs;
