@@ -5,6 +5,7 @@
 use crate::load::load;
 use crate::machine::Machine;
 use crate::run::Outcome;
+use crate::snapshot::layout::saved_length;
 use crate::snapshot::read::read;
 use crate::snapshot::save::save;
 use crate::types::Key;
@@ -70,9 +71,9 @@ pub fn refused(answer: u32) -> String {
 /// answer of its load. Document 02, item 5.
 pub fn saved(file: &[u8]) -> Result<Vec<u8>, u32> {
     let (machine, _) = ran(&Setup::default(), file)?;
-    let entries = machine.buffer.as_ref().map_or(0, |buffer| buffer.count as usize);
-    let mut saved = vec![0; 120 + 16 * entries + machine.regs.written as usize + MEMORY];
-    let (answer, length) = save(&machine.record(), &machine.memory, &machine.console, &mut saved);
+    let record = machine.record();
+    let mut saved = vec![0; saved_length(&record, MEMORY)];
+    let (answer, length) = save(&record, &machine.memory, &machine.console, &mut saved);
     assert_eq!((answer, length), (0, saved.len() as u64), "what a run leaves can be saved");
     Ok(saved)
 }

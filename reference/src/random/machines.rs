@@ -8,22 +8,10 @@ use crate::calls::{Restore, Save, MAX_CONSOLE, MAX_FILE, MAX_MEMORY};
 use crate::case::numbers::{widths, NAMES};
 use crate::case::Runs;
 use crate::machine::Machine;
-use crate::snapshot::layout::{ENTRY, HEADER};
+use crate::snapshot::layout::{registers_length, saved_length, ENTRY, HEADER};
 use crate::snapshot::save::save;
 use crate::types::{Entry, PAGE};
 use crate::words;
-
-/// Bytes of the register block.
-fn registers_length() -> usize {
-    widths().iter().sum()
-}
-
-/// What a machine takes in a file.
-fn saved_length(runs: &Runs) -> usize {
-    let entries = runs.record.buffer.count as usize;
-    let written = runs.record.regs.written as usize;
-    HEADER + registers_length() + ENTRY * entries + written + runs.memory.len()
-}
 
 /// A machine as a case of runs begins with it, or as its first run leaves it.
 fn machine(rng: &mut Rng, number: u64) -> Runs {
@@ -53,7 +41,7 @@ fn machine(rng: &mut Rng, number: u64) -> Runs {
 /// A machine to save, often one that is refused, into a file that fits or not.
 pub fn random_save(rng: &mut Rng, number: u64) -> Save {
     let mut runs = machine(rng, number);
-    let exact = saved_length(&runs);
+    let exact = saved_length(&runs.record, runs.memory.len());
     if rng.percent(35) {
         for _ in 0..1 + rng.below(2) {
             break_something(rng, &mut runs, Purpose::Any);
@@ -73,7 +61,7 @@ pub fn random_save(rng: &mut Rng, number: u64) -> Save {
 /// A saved machine to read, mostly damaged in one place.
 pub fn random_restore(rng: &mut Rng, number: u64) -> Restore {
     let runs = machine(rng, number);
-    let mut file = vec![0; saved_length(&runs)];
+    let mut file = vec![0; saved_length(&runs.record, runs.memory.len())];
     save(&runs.record, &runs.memory, &runs.console, &mut file);
     let written = runs.record.regs.written as usize;
     let console_length = rng.pick(&[runs.console.len(), written, written + 7]).min(MAX_CONSOLE);

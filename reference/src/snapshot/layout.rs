@@ -5,7 +5,7 @@
 
 use super::mistake::SnapshotMistake::{self, *};
 use crate::case::numbers::widths;
-use crate::types::PAGE;
+use crate::types::{Record, PAGE};
 
 /// Seven words.
 pub const HEADER: usize = 28;
@@ -17,6 +17,17 @@ pub const REGISTERS: usize = 0;
 pub const ENTRIES: usize = 1;
 pub const CONSOLE: usize = 2;
 pub const MEMORY: usize = 3;
+
+/// Bytes of the register block; it grows with the record.
+pub fn registers_length() -> usize {
+    widths().iter().sum()
+}
+
+/// Bytes that a machine takes whose counts pass.
+pub fn saved_length(record: &Record, memory: usize) -> usize {
+    let (entries, written) = (record.buffer.count as usize, record.regs.written as usize);
+    HEADER + registers_length() + ENTRY * entries + written + memory
+}
 
 /// The header's three counts.
 #[derive(Clone, Copy, Debug, PartialEq, Eq)]

@@ -1,7 +1,8 @@
 //! Saving a machine. "Saving answers the length, 0 when refused; later file
 //! bytes stay."
 
-use super::layout::{blocks_in_order, exchanged, numbers_in_order, to_bytes, Counts, Layout};
+use super::layout::{blocks_in_order, exchanged, numbers_in_order, to_bytes};
+use super::layout::{Counts, Layout, HEADER};
 use super::mistake::SnapshotMistake::{self, *};
 use super::Lent;
 use crate::case::numbers::numbers;
@@ -35,7 +36,7 @@ pub fn save_with(
     match mistake {
         Some(LaterFileZeroed) => later.fill(0),
         Some(LengthOfFile) => return (0, lent.file as u64),
-        Some(LengthOfBlocks) => return (0, bytes.len() as u64 - 28),
+        Some(LengthOfBlocks) => return (0, (bytes.len() - HEADER) as u64),
         _ => {}
     }
     (0, bytes.len() as u64)
