@@ -15,15 +15,18 @@ use rules::System;
 use rules::cause_number;
 use rules::stop_number;
 
+// How many numbers the list has.
+pub const NUMBERS: usize = 22;
+
 // A flag as a number.
-fn flag(b: bool) -> u64
+pub fn flag(b: bool) -> u64
     ensures { λ r. ⌜ r ≡ flag b ⌝ }
 {
     if b { 1 } else { 0 }
 }
 
 // The numbers of a record.
-pub fn numbers_of(c: Cpu) -> [u64; 22]
+pub fn numbers_of(c: Cpu) -> [u64; NUMBERS]
     ensures { λ r. ⌜ r ≡ numbersOf c ⌝ }
 {
     let regs = c.regs;
@@ -95,7 +98,7 @@ fn cause_of(n: u64) -> LastCause
 const WORDS: u64 = 0x1_0000_0000;
 
 // A record, from its numbers.
-pub fn record_of(n: [u64; 22], taken: usize, written: usize) -> Cpu
+pub fn record_of(n: [u64; NUMBERS], taken: usize, written: usize) -> Cpu
     ensures { λ r. ⌜ r ≡ recordOfLow n taken written ⌝ }
 {
     let regs = Regs {

@@ -50,7 +50,7 @@ fn has_page(slots: [Entry; 64], n: usize, from: usize, page: u32) -> bool
 
 // Whether a record's slots and their count pass refusal 3, tested from the last counted slot on. A page is searched for among the slots after its own only
 // where one of them has a page of the same remainder by 256.
-fn slots_ok(m: Machine, size: usize) -> bool
+pub fn slots_ok(m: Machine, size: usize) -> bool
     ensures { λ r. ⌜ r ≡ bufferOk size (entriesOf m) ⌝ }
 {
     let n = m.held;

@@ -11,7 +11,7 @@ use Rattle.rules.specs.Arithmetic.{flag}
 use Rattle.rules.specs.Record.{stopNumber, causeNumber}
 use Rattle.rules.specs.Numbers.{numbersOf, flagOf, stopOf, causeOf, recordBy, recordOf}
 
-flag-read : (b : Bool) → flagOf (flag b) ≡ b
+pub flag-read : (b : Bool) → flagOf (flag b) ≡ b
 flag-read true = refl
 flag-read false = refl
 
