@@ -1,0 +1,5 @@
+pub mod Answers
+mod Order
+mod Saving
+mod Reading
+pub mod Within
