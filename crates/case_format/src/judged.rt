@@ -73,8 +73,8 @@ fn rights_fit(s: &[u8], slots: usize) -> bool
     true
 }
 
-// The place after the chunks from `from` on, which rise within `size` bytes of memory; 0 where they do not.
-fn chunks_end(s: &[u8], from: usize, count: usize, size: usize) -> usize
+// The place after the chunks from `from` on, which rise within `size` bytes; 0 where they do not.
+pub fn chunks_end(s: &[u8], from: usize, count: usize, size: usize) -> usize
     ensures { λ r. ⌜ r ≤ length (now (s .entry)) ⌝ }
 {
     if s.len() < from {
@@ -99,6 +99,23 @@ fn chunks_end(s: &[u8], from: usize, count: usize, size: usize) -> usize
     at
 }
 
+// The place after the machine that a case or a call gives: numbers, slots, chunks, the console's bytes; 0 where they contradict each other or the tables.
+pub fn machine_end(s: &[u8]) -> usize {
+    let slots = place(s, 24);
+    let header = (slots <= 64) & (word(s, 32) <= word(s, 16)) & (place(s, 56) == NUMBERS);
+    if !header | (s.len() < SLOTS + 16 * slots) {
+        return 0;
+    }
+    if !(numbers_fit(s) & rights_fit(s, slots)) {
+        return 0;
+    }
+    let at = chunks_end(s, SLOTS + 16 * slots, place(s, 28), place(s, 12));
+    if at == 0 {
+        return 0;
+    }
+    at + place(s, 32)
+}
+
 // The runs from `from` on, to the end of the case.
 fn judge_list(s: &[u8], from: usize, count: usize) -> Judged {
     let mut at = from;
@@ -117,33 +134,17 @@ fn judge_list(s: &[u8], from: usize, count: usize) -> Judged {
     formed(at == s.len())
 }
 
-// The parts after the header.
-fn judge_parts(s: &[u8]) -> Judged {
-    let slots = place(s, 24);
-    if (s.len() < SLOTS + 16 * slots) | !numbers_fit(s) {
-        return Judged::Malformed;
-    }
-    if !rights_fit(s, slots) {
-        return Judged::Malformed;
-    }
-    let at = chunks_end(s, SLOTS + 16 * slots, place(s, 28), place(s, 12));
-    if at == 0 {
-        return Judged::Malformed;
-    }
-    judge_list(s, at + place(s, 32), place(s, 36))
-}
-
-// A case of runs: bounds, header, parts.
+// A case of runs: bounds, the machine, the runs.
 fn judge_runs(s: &[u8]) -> Judged {
     if (2097152 < word(s, 12)) | (4096 < word(s, 16)) | (64 < word(s, 36)) {
         return Judged::Bounds;
     }
     let entries = word(s, 8);
-    let header = (0 < entries) & (entries < 8) & (place(s, 56) == NUMBERS);
-    if !header | (64 < word(s, 24)) | (word(s, 16) < word(s, 32)) {
+    let at = machine_end(s);
+    if (entries == 0) | (7 < entries) | (at == 0) {
         return Judged::Malformed;
     }
-    judge_parts(s)
+    judge_list(s, at, place(s, 36))
 }
 
 // A case of loading.

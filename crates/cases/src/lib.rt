@@ -1,6 +1,4 @@
 // The reference's test cases (reference/FORMAT.md): each is read, run by the library's entries, and printed.
-pub mod given;
 pub mod lists;
 pub mod load;
-pub mod printed;
 pub mod stream;

@@ -1,14 +1,11 @@
 // reference/FORMAT.md, "A case of runs": a list of runs, each from where the one before it ended, by each of the entries that the case names.
 ghost use Prim.Native.Nat.{_<_};
-use crate::given::machine_of;
-use crate::printed::show_line;
-use case_format::given::SLOTS;
-use case_format::given::chunks;
-use case_format::given::copy;
-use case_format::given::fill;
 use case_format::given::long;
 use case_format::given::place;
 use case_format::given::word;
+use case_records::given::lend;
+use case_records::given::machine_of;
+use case_records::printed::show_line;
 use entry_calls::made::make;
 use rules::Machine;
 
@@ -25,7 +22,8 @@ fn run_shown(
 ) -> Machine {
     let r = make(m, keys, budget, entry, mem, con);
     let machine = r.machine;
-    show_line(no, run, r.number, r.steps, machine, mem, con);
+    let head = [run, r.number as u64, r.steps];
+    show_line(no, &head, machine, mem, con);
     machine
 }
 
@@ -59,16 +57,8 @@ fn pass(s: &[u8], no: u64, entry: u32, mem: &mut [u8], con: &mut [u8])
     if word(s, 8) / entry % 2 == 0 {
         return;
     }
-    fill(mem, 0);
-    fill(con, 0);
-    let slots = place(s, 24);
-    let at = chunks(s, SLOTS + 16 * slots, place(s, 28), mem);
-    if s.len() < at {
-        return;
-    }
-    let given = place(s, 32);
-    copy(s, at, con, 0, given);
-    run_list(s, at + given, no, entry, mem, con);
+    let at = lend(s, mem, con);
+    run_list(s, at, no, entry, mem, con);
 }
 
 // The entries 1, 2 and 4.

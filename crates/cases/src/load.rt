@@ -1,15 +1,16 @@
 // reference/FORMAT.md, "A case of loading": a file, and the line that comes of it.
-use crate::printed::show_line;
 use case_format::given::fill;
 use case_format::given::place;
 use case_format::given::word;
+use case_records::printed::show_line;
 
 fn load_shown(file: &[u8], value: u32, no: u64, mem: &mut [u8]) {
     fill(mem, (value % 256) as u8);
     let l = loader::load(file, mem);
     let answer = l.answer;
     let machine = l.machine;
-    show_line(no, 0, executable::load_number(answer), 0, machine, mem, b"");
+    let head = [0, executable::load_number(answer) as u64, 0];
+    show_line(no, &head, machine, mem, b"");
 }
 
 // The line of a case of loading.

@@ -2,8 +2,8 @@ use Prim.Native.Nat.{_≤_, _-_}
 use lib.ListN.{length}
 use mathlib.Core.Path.{_≡_}
 use borrow.Author.Needs.{needs}
-use Rattle.cases.proofs.printed.buffer.Statement.{statement}
-use Rattle.cases.proofs.printed.buffer.Tie as tie
+use Rattle.case_records.proofs.printed.buffer.Statement.{statement}
+use Rattle.case_records.proofs.printed.buffer.Tie as tie
 
 -- The line's buffer has its length still, and at most 64 entries are printed.
 abbrev Inv-loop : tie.InvT-loop
@@ -19,6 +19,6 @@ buffer-spec =
     Inv-loop
     μ-loop
     (λ c κs. search needs) (λ c κs. search needs) (λ c. search needs) (λ c. search needs) (λ c. search needs)
-    (λ c κs. search needs) (λ c κs. search needs) (λ c κs. search needs) (λ c κs. search needs) (λ c. search needs)
+    (λ c. search needs) (λ c. search needs) (λ c κs. search needs) (λ c κs. search needs) (λ c. search needs)
     (λ c κs. search needs) (λ c. search needs) (λ c. search needs) (λ c. search needs) (λ c. search needs)
     (λ c. search needs))

@@ -2,8 +2,8 @@ use Prim.Native.Nat.{_-_}
 use lib.ListN.{length}
 use mathlib.Core.Path.{_≡_}
 use borrow.Author.Needs.{needs}
-use Rattle.cases.proofs.given.numbers_at.Statement.{statement}
-use Rattle.cases.proofs.given.numbers_at.Tie as tie
+use Rattle.case_records.proofs.given.numbers_at.Statement.{statement}
+use Rattle.case_records.proofs.given.numbers_at.Tie as tie
 
 -- The list of numbers has its length, 22, still.
 abbrev Inv-loop : tie.InvT-loop

@@ -1,4 +1,4 @@
-// reference/FORMAT.md, "Expected output": the line of a run or a load.
+// reference/FORMAT.md, "Expected output": the line of a machine.
 use case_format::digest::digest;
 use case_format::given::NUMBERS;
 use case_format::given::least;
@@ -6,15 +6,8 @@ use case_format::printed::end;
 use case_format::printed::number;
 use case_format::printed::numbers;
 use paging::Entry;
+use record_numbers::flag;
 use rules::Machine;
-
-fn wide(x: u32) -> u64 {
-    x as u64
-}
-
-fn bit(b: bool) -> u64 {
-    if b { 1 } else { 0 }
-}
 
 // The buffer: its count, then at most 64 entries.
 fn buffer(out: &mut [u8], at: usize, entries: [Entry; 64], held: usize) -> usize {
@@ -23,7 +16,7 @@ fn buffer(out: &mut [u8], at: usize, entries: [Entry; 64], held: usize) -> usize
     let mut i = 0;
     while i < n {
         let e = entries[i];
-        let values = [wide(e.page), wide(e.frame), bit(e.user), bit(e.write)];
+        let values = [e.page as u64, e.frame as u64, flag(e.user), flag(e.write)];
         p = numbers(out, p, &values);
         i += 1;
     }
@@ -52,12 +45,11 @@ fn digests(out: &mut [u8], at: usize, mem: &[u8], con: &[u8]) -> usize {
     numbers(out, at, &values)
 }
 
-// A line: the numbers of case and run, the answer's number, the reported steps, and what stands after the run.
-pub fn show_line(no: u64, run: u64, answer: u32, steps: u64, m: Machine, mem: &[u8], con: &[u8]) {
+// A line: the number of the case or call, the numbers that it has before the record's, the record, and the digests.
+pub fn show_line(no: u64, head: &[u64], m: Machine, mem: &[u8], con: &[u8]) {
     let mut out = [0u8; 8192];
-    let head = [run, wide(answer), steps];
     let p = number(&mut out, 0, true, no);
-    let p = numbers(&mut out, p, &head);
+    let p = numbers(&mut out, p, head);
     let p = record(&mut out, p, m);
     let p = digests(&mut out, p, mem, con);
     end(&mut out, p);
