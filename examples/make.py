@@ -302,6 +302,35 @@ write("endless.v9", """
     JMP again
 """)
 
+# a ration of 60 kilograms, three grams a turn, counted in a page of its own: longer than the budget of one run
+write("ration.v9", """
+    LI 0x2007
+    LBI 0x1000
+    SX 0                ; the directory's first word: the table at 0x2000
+    LI 0x0007
+    LBI 0x2000
+    SX 0                ; page 0: the program
+    LI 0x5007
+    SX 64               ; page 16: frame 5, the count
+    LBI 0x52
+    BOUT                ; R
+    LI 0x1000
+    PDIR
+    LI 1
+    SPAG
+    again:
+    LI 0x10000
+    LX 0
+    ADDI 3
+    LBI 0x10000
+    SX 0
+    LBI 60000
+    BE done
+    JMP again
+    done:
+    HALT
+""")
+
 # refused: the entry lies beyond the program
 write("refused.v9", """
     HALT

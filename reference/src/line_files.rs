@@ -196,6 +196,7 @@ fn examples() -> Vec<NamedFile> {
         ("panel.v9", include_bytes!("../../examples/panel.v9").to_vec()),
         ("recipe.v9", include_bytes!("../../examples/recipe.v9").to_vec()),
         ("endless.v9", include_bytes!("../../examples/endless.v9").to_vec()),
+        ("ration.v9", include_bytes!("../../examples/ration.v9").to_vec()),
         ("refused.v9", include_bytes!("../../examples/refused.v9").to_vec()),
     ]
 }
