@@ -3,15 +3,17 @@
 use super::{input, text, Done};
 use reference::calls::answer::expect;
 use reference::calls::format::{encode, read_all};
-use reference::calls::mutants::Judge;
+use reference::calls::mutants::{CallMistake, Judge};
 use reference::calls::stored::all;
-use reference::calls::{Call, KIND_LINES, KIND_READ};
+use reference::calls::{Call, KIND_LINES, KIND_READ, KIND_RESTORE, KIND_SAVE};
 use reference::families::Family;
 use reference::line::{refused, resumed, saved};
 use reference::listing::list as listing;
 use reference::listing::mistake::{load_family, opcode_families, ListingMistake};
 use reference::listing::unlist::unlist as read_line;
 use reference::random::calls::random_call;
+use reference::snapshot::families::{file_families, read_families, save_families};
+use reference::snapshot::mistake::SnapshotMistake;
 use reference::stream::Broken;
 use std::io::{self, BufWriter, Write};
 use std::ops::Range;
@@ -84,44 +86,76 @@ pub fn print_expected() -> Done {
 }
 
 /// Mistakes that no call told apart.
-type Untold = Vec<ListingMistake>;
+type Untold = Vec<CallMistake>;
+
+/// The kinds of call in each of which a mistake must show, and their name.
+type Asked = (&'static [u32], &'static str);
+
+const LISTED: Asked = (&[KIND_LINES], "listed");
+const READ_BACK: Asked = (&[KIND_READ], "read back");
+const SAVED: Asked = (&[KIND_SAVE], "saved");
+const RESTORED: Asked = (&[KIND_RESTORE], "read");
 
 pub fn print_mutants() -> Done {
     let broken = |broken: Broken| format!("the stream of calls is broken: {broken}");
     let calls = read_all(&input()?).map_err(broken)?;
     let judge = Judge::new(&calls);
-    let mut untold = Untold::new();
+    let mut mutants = Mutants { judge: &judge, count: 0, untold: Untold::new() };
     for mistake in ListingMistake::ALL {
-        let telling = judge.telling(*mistake, &[KIND_LINES, KIND_READ]);
-        let by = telling.map_or("none".to_string(), |number| number.to_string());
-        println!("told by {by:>4}: {}", mistake.text());
-        untold.extend(telling.is_none().then_some(*mistake));
+        mutants.single(*mistake, mistake.text(), &[(&[KIND_LINES, KIND_READ], "")]);
     }
-    let mut count = ListingMistake::ALL.len();
-    for family in opcode_families() {
-        count += 2 * family.members.len();
-        untold.extend(print_family(&judge, &family, KIND_LINES, "listed"));
-        untold.extend(print_family(&judge, &family, KIND_READ, "read back"));
+    for mistake in SnapshotMistake::ALL {
+        let either: Asked = (&[KIND_SAVE, KIND_RESTORE], "");
+        let asked = if mistake.is_about_file() { vec![SAVED, RESTORED] } else { vec![either] };
+        mutants.single(*mistake, mistake.text(), &asked);
     }
-    count += load_family().members.len();
-    untold.extend(print_family(&judge, &load_family(), KIND_LINES, "listed"));
-    println!("{count} mistakes, {} of them not told apart", untold.len());
-    if untold.is_empty() {
+    mutants.families(opcode_families(), &[LISTED, READ_BACK]);
+    mutants.families(vec![load_family()], &[LISTED]);
+    mutants.families(file_families(), &[SAVED, RESTORED]);
+    mutants.families(save_families(), &[SAVED]);
+    mutants.families(read_families(), &[RESTORED]);
+    println!("{} mistakes, {} of them not told apart", mutants.count, mutants.untold.len());
+    if mutants.untold.is_empty() {
         return Ok(());
     }
-    Err(format!("not told apart: {untold:?}"))
+    Err(format!("not told apart: {:?}", mutants.untold))
 }
 
-/// Those of a family that no call of this kind tells apart.
-fn print_family(
-    judge: &Judge,
-    family: &Family<ListingMistake>,
-    kind: u32,
-    direction: &str,
-) -> Untold {
-    let untold_by = |mistake: &ListingMistake| judge.telling(*mistake, &[kind]).is_none();
-    let left: Untold = family.members.iter().copied().filter(untold_by).collect();
-    let members = family.members.len();
-    println!("told {:>5} of {members:>5}, {direction}: {}", members - left.len(), family.text);
-    left
+/// The planted mistakes so far.
+struct Mutants<'a> {
+    judge: &'a Judge<'a>,
+    count: usize,
+    untold: Untold,
+}
+
+impl Mutants<'_> {
+    /// One that stands alone.
+    fn single(&mut self, mistake: impl Into<CallMistake> + Copy, text: &str, asked: &[Asked]) {
+        for (kinds, direction) in asked {
+            let telling = self.judge.telling(mistake, kinds);
+            let by = telling.map_or("none".to_string(), |number| number.to_string());
+            let direction =
+                if direction.is_empty() { String::new() } else { format!(", {direction}") };
+            println!("told by {by:>4}{direction}: {text}");
+            self.count += 1;
+            self.untold.extend(telling.is_none().then(|| mistake.into()));
+        }
+    }
+
+    /// Those of families, by calls of each of these kinds.
+    fn families<M>(&mut self, families: Vec<Family<M>>, asked: &[Asked])
+    where
+        M: Into<CallMistake> + Copy,
+    {
+        for family in families {
+            for (kinds, direction) in asked {
+                let untold = |mistake: &&M| self.judge.telling(**mistake, kinds).is_none();
+                let left: Vec<&M> = family.members.iter().filter(untold).collect();
+                let (told, members) = (family.members.len() - left.len(), family.members.len());
+                println!("told {told:>5} of {members:>5}, {direction}: {}", family.text);
+                self.count += members;
+                self.untold.extend(left.into_iter().map(|mistake| (*mistake).into()));
+            }
+        }
+    }
 }

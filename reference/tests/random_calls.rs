@@ -15,7 +15,7 @@ use std::collections::{BTreeMap, BTreeSet};
 use std::process::Command;
 use std::sync::LazyLock;
 
-const COUNT: u64 = 12_000;
+const COUNT: u64 = 16_000;
 const LINES: u64 = 60_000;
 
 static CALLS: LazyLock<Vec<Call>> =
@@ -78,7 +78,7 @@ fn ranges_reach_the_ends() {
                 let words = file.len().saturating_sub(HEADER).div_ceil(4) as u64;
                 holds(*first, *count, words)
             }
-            Call::Read(_) => false,
+            _ => false,
         });
         asked.count()
     };
@@ -134,4 +134,53 @@ fn lines_are_of_every_kind_and_many_pass() {
     }
     assert!(passed > LINES / 4 && passed < LINES / 2, "{passed}");
     assert!(longest > 500, "{longest}");
+}
+
+/// What a call gives after its number: the answer first.
+fn answer(lines: &[Option<String>]) -> u32 {
+    let word = lines[0].as_ref().and_then(|line| line.split(' ').next());
+    word.and_then(|word| word.parse().ok()).unwrap()
+}
+
+#[test]
+fn machines_are_saved_and_read_with_every_answer() {
+    for (kind, due) in [(3, vec![0, 1, 2, 3, 5, 13]), (4, vec![0, 1, 13, 14, 15, 16])] {
+        let mut counts = BTreeMap::new();
+        for (_, lines) in given(kind) {
+            assert_eq!(lines.len(), 1);
+            *counts.entry(answer(&lines)).or_insert(0) += 1;
+        }
+        assert!(counts.keys().eq(&due), "kind {kind}: {counts:?}");
+        assert!(counts.values().all(|count| *count >= 25), "kind {kind}: {counts:?}");
+    }
+}
+
+/// Of those that are accepted: entries from none to all, stop reasons, causes,
+/// waiting, marks, a memory of many pages, files and consoles that are longer.
+#[test]
+fn accepted_machines_are_of_every_kind() {
+    let mut seen: BTreeMap<String, u32> = BTreeMap::new();
+    let mut count = |name: String, holds: bool| *seen.entry(name).or_default() += u32::from(holds);
+    for (call, lines) in given(3).filter(|(_, lines)| answer(lines) == 0) {
+        let Call::Save(save) = call else { continue };
+        let words: Vec<u64> =
+            lines[0].as_ref().unwrap().split(' ').map(|word| word.parse().unwrap()).collect();
+        let (regs, entries) = (&save.record.regs, save.record.buffer.count);
+        count(format!("stop {}", regs.stop as u32), true);
+        count(format!("cause {}", regs.cause as u32), true);
+        count("waiting".to_string(), regs.waiting);
+        count("a mark".to_string(), regs.key_pending || regs.timer_pending);
+        count("keys taken".to_string(), regs.keys > 0);
+        count("no entry".to_string(), entries == 0);
+        count("some entries".to_string(), entries > 0 && entries < 64);
+        count("64 entries".to_string(), entries == 64);
+        count("a full console".to_string(), regs.written == save.console.len() as u64);
+        count("a longer console".to_string(), regs.written < save.console.len() as u64);
+        count("a file that fits".to_string(), words[1] == save.file_length as u64);
+        count("a longer file".to_string(), words[1] < save.file_length as u64);
+        count("32 pages".to_string(), save.memory.len() == 131_072);
+        count("a count of 63 bits".to_string(), regs.count > 1 << 62);
+    }
+    assert_eq!(seen.len(), 4 + 8 + 12, "{seen:?}");
+    assert!(seen.values().all(|count| *count >= 5), "{seen:?}");
 }

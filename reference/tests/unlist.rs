@@ -136,9 +136,9 @@ fn comes_back(file: &[u8]) -> usize {
 fn listings_come_back() {
     let run: usize = (0..400).map(|number| comes_back(&random_file(11, number))).sum();
     assert!(run > 300_000, "{run}");
-    let asked = (0..4000).map(|number| match random_call(11, number) {
+    let asked = (0..5000).map(|number| match random_call(11, number) {
         Call::Lines { file, .. } => comes_back(&file),
-        Call::Read(_) => 0,
+        _ => 0,
     });
     let asked: usize = asked.sum();
     assert!(asked > 50_000, "{asked}");

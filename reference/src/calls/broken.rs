@@ -1,9 +1,10 @@
 //! Broken streams of calls, each with what CALLS.md calls it, and good ones at
-//! the edges. Every one has a good call of each kind in front, so that lines
+//! the edges. Every one has good calls of kinds 1 and 2 in front, so that lines
 //! come before the last.
 
+use super::broken_machines as machines;
 use super::format::encode;
-use super::{Call, LAST_KIND, MAX_CALL, MAX_LINES};
+use super::{Call, KIND_LINES, KIND_RESTORE, KIND_SAVE, LAST_KIND, MAX_CALL, MAX_LINES};
 use crate::broken::{changed, sized, Stream};
 use crate::load::executable;
 use crate::stream::Broken::{self, Bounds, Cut, Malformed};
@@ -32,11 +33,14 @@ pub fn read() -> Vec<u8> {
 pub fn streams() -> Vec<Stream> {
     let broken = |kind: Broken| move |call: Vec<u8>| (Some(kind), call);
     let after = |call: Vec<u8>| [call, lines()].concat();
-    let mut list: Vec<Stream> = cut().into_iter().map(broken(Cut)).collect();
-    list.extend(bounds().into_iter().map(after).map(broken(Bounds)));
-    let malformed = [lengths(), fields()].concat();
+    let cut = [cut(), machines::cut()].concat();
+    let mut list: Vec<Stream> = cut.into_iter().map(broken(Cut)).collect();
+    let bounds = [bounds(), machines::bounds()].concat();
+    list.extend(bounds.into_iter().map(after).map(broken(Bounds)));
+    let malformed = [lengths(), fields(), machines::lengths(), machines::fields()].concat();
     list.extend(malformed.into_iter().map(after).map(broken(Malformed)));
-    list.extend(unbroken().into_iter().map(|call| (None, call)));
+    let unbroken = [unbroken(), machines::unbroken()].concat();
+    list.extend(unbroken.into_iter().map(|call| (None, call)));
     list.into_iter().map(|(kind, call)| (kind, [lines(), read(), call].concat())).collect()
 }
 
@@ -74,6 +78,8 @@ fn bounds() -> Vec<Vec<u8>> {
         changed(changed(lines(), COUNT, count), FILE_LENGTH, 0),
         changed(changed(lines(), COUNT, count), FILE_LENGTH, u32::MAX),
         sized(changed(lines(), COUNT, count), FILE),
+        changed(read(), KIND, KIND_LINES),
+        changed(read(), KIND, KIND_RESTORE),
     ]
 }
 
@@ -102,6 +108,12 @@ fn fields() -> Vec<Vec<u8>> {
         let right = (call.len() - fields) as u32;
         let wrong = [0, right - 1, right + 1, right + 0x1_0000, u32::MAX - 3, u32::MAX];
         list.extend(wrong.map(|length| changed(call.clone(), at, length)));
+    }
+    // A call as another kind's; where a line's text would be a length it is beyond.
+    list.push(changed(read(), KIND, KIND_SAVE));
+    for (kind, call) in [(1, lines()), (3, machines::save()), (4, machines::restore())] {
+        let others = (1..=LAST_KIND).filter(|other| *other != kind);
+        list.extend(others.map(|other| changed(call.clone(), KIND, other)));
     }
     list
 }

@@ -1,6 +1,8 @@
 //! Writing and reading calls in the format of CALLS.md.
 
-use super::{Call, KIND_LINES, KIND_READ, MAX_CALL, MAX_LINES};
+use super::machines::{put_restore, put_save};
+use super::{Call, KIND_LINES, KIND_READ, KIND_RESTORE, KIND_SAVE, MAX_CALL, MAX_LINES};
+use crate::case::parts::put32;
 use crate::stream::{within, Broken, Cursor, Stream};
 
 /// The bytes of a call. Panics on one beyond the format's bounds.
@@ -15,15 +17,13 @@ pub fn encode(call: &Call) -> Vec<u8> {
             put_bytes(&mut bytes, file);
         }
         Call::Read(line) => put_bytes(&mut bytes, line),
+        Call::Save(save) => put_save(&mut bytes, save),
+        Call::Restore(restore) => put_restore(&mut bytes, restore),
     }
     assert!(bytes.len() <= MAX_CALL, "a call of {} bytes", bytes.len());
     let length = bytes.len() as u32;
     bytes[..4].copy_from_slice(&length.to_le_bytes());
     bytes
-}
-
-fn put32(bytes: &mut Vec<u8>, value: u32) {
-    bytes.extend(value.to_le_bytes());
 }
 
 fn put_bytes(bytes: &mut Vec<u8>, list: &[u8]) {
@@ -50,6 +50,8 @@ fn decode(bytes: &[u8]) -> Result<Call, Broken> {
             let length = cursor.size()?;
             Call::read(cursor.take(length)?)
         }
+        KIND_SAVE => cursor.save()?.into(),
+        KIND_RESTORE => cursor.restore()?.into(),
         _ => return Err(Broken::Malformed),
     };
     cursor.end()?;

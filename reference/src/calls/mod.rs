@@ -3,7 +3,9 @@
 
 pub mod answer;
 pub mod broken;
+pub mod broken_machines;
 pub mod format;
+pub mod machines;
 pub mod mutants;
 pub mod near;
 pub mod stored;
@@ -20,7 +22,9 @@ pub const MAX_FILE: usize = 139_264;
 /// Numbers of the kinds of call.
 pub const KIND_LINES: u32 = 1;
 pub const KIND_READ: u32 = 2;
-pub const LAST_KIND: u32 = KIND_READ;
+pub const KIND_SAVE: u32 = 3;
+pub const KIND_RESTORE: u32 = 4;
+pub const LAST_KIND: u32 = KIND_RESTORE;
 
 #[derive(Clone, Debug, PartialEq, Eq)]
 pub enum Call {
@@ -28,6 +32,10 @@ pub enum Call {
     Lines { first: u64, count: u32, file: Vec<u8> },
     /// A listed line read back.
     Read(Vec<u8>),
+    /// A machine saved.
+    Save(Box<Save>),
+    /// A saved machine read.
+    Restore(Restore),
 }
 
 /// A machine to save into a file of `file_length` bytes of `fill`.
@@ -54,6 +62,8 @@ impl Call {
         match self {
             Call::Lines { .. } => KIND_LINES,
             Call::Read(_) => KIND_READ,
+            Call::Save(_) => KIND_SAVE,
+            Call::Restore(_) => KIND_RESTORE,
         }
     }
 
@@ -64,5 +74,17 @@ impl Call {
 
     pub fn read(line: impl AsRef<[u8]>) -> Call {
         Call::Read(line.as_ref().to_vec())
+    }
+}
+
+impl From<Save> for Call {
+    fn from(save: Save) -> Call {
+        Call::Save(Box::new(save))
+    }
+}
+
+impl From<Restore> for Call {
+    fn from(restore: Restore) -> Call {
+        Call::Restore(restore)
     }
 }

@@ -1,6 +1,7 @@
 //! Random calls. Everything follows from a seed and a call's number.
 
 use super::executables::random_file;
+use super::machines::{random_restore, random_save};
 use super::rng::Rng;
 use crate::calls::near::{near_misses, Listed};
 use crate::calls::{Call, MAX_CALL, MAX_LINES};
@@ -15,9 +16,16 @@ const FIELDS: usize = 24;
 /// Call `number` of the list with this seed.
 pub fn random_call(seed: u64, number: u64) -> Call {
     let rng = &mut Rng::for_case(seed, number);
-    if rng.percent(60) {
-        return Call::Read(random_line(rng).1);
+    match rng.weighted(&[30, 42, 12, 16]) {
+        0 => random_lines(rng, number),
+        1 => Call::Read(random_line(rng).1),
+        2 => random_save(rng, number).into(),
+        _ => random_restore(rng, number).into(),
     }
+}
+
+/// Lines of the listing of some file.
+fn random_lines(rng: &mut Rng, number: u64) -> Call {
     let mut file = if rng.percent(12) {
         let seed = rng.next64();
         random_file(seed, number)

@@ -1,9 +1,12 @@
 //! The stored stream of calls, one idea each. What must come of them stands in
 //! `crates/calls/stdout`; lines worked out by hand in `tests/listing.rs` and
-//! `tests/unlist.rs`.
+//! `tests/unlist.rs`, saved machines in `tests/snapshot.rs`.
 
 mod files;
 mod lines;
+pub mod machines;
+pub mod restores;
+mod saves;
 
 use super::Call;
 
@@ -12,7 +15,7 @@ pub type Named = (String, Call);
 
 /// All of them, in their order.
 pub fn all() -> Vec<Named> {
-    [files::calls(), lines::calls()].concat()
+    [files::calls(), lines::calls(), saves::calls(), restores::calls()].concat()
 }
 
 /// Operands at the edges.

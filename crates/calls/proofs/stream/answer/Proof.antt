@@ -5,10 +5,10 @@ use Rattle.calls.proofs.stream.answer.Tie as tie
 
 -- Nothing is kept from call to call: the number of calls is bounded by the loop's test.
 abbrev Inv-loop : tie.InvT-loop
-Inv-loop buf₀ no₀ buf no' = Unit {0}
+Inv-loop buf₀ memory₀ console₀ files₀ no₀ buf memory console files no' = Unit {0}
 
 abbrev μ-loop : tie.MeasureT-loop
-μ-loop buf₀ no₀ buf no' = 1000000000 - no'
+μ-loop buf₀ memory₀ console₀ files₀ no₀ buf memory console files no' = 1000000000 - no'
 
 pub answer-spec : {M : Type 1} → statement M
 answer-spec =
