@@ -1,5 +1,6 @@
 -- One law of `Order` a return: the tests before it passed and its own failed, so that its number is the lowest; after all six the save is accepted.
 use Rattle.snapshot.proofs.Order.{passed, failed, save-size, save-registers, save-buffer, save-console, save-small, save-room, save-offset, save-accepted}
+use native.Mathlib.Nat.{le-of-lt}
 use borrow.Author.Needs.{needs}
 use Rattle.snapshot.proofs.judge_save.Statement.{statement}
 use Rattle.snapshot.proofs.judge_save.Tie as tie
@@ -38,8 +39,9 @@ memory-at-requires c κs =
     let slots = passed (at-slots .slots-ok .ensures) (at-counts .before .before .before .if3 .left) in
     save-small (at-start .args .m) _ _ (at-counts .counts-of .ensures) size slots (at-counts .before .if4 .left) (at-start .pre)
 
+-- `le-of-lt` is for a test by `>`, the edit `saved_above_2_32`: it holds here, and the next does not
 returns-6 : tie.Need-returns-6
-returns-6 c = search (save-offset, passed)
+returns-6 c = search (save-offset, passed, le-of-lt)
 
 returns-7 : tie.Need-returns-7
 returns-7 c = search (save-accepted, passed)

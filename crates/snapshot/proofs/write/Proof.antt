@@ -23,9 +23,7 @@ put-entries-requires c κs =
     entries-room (at-start .pre) (at-header .before .counts-of .ensures) (header .ensures) (header .kept .0) (registers .ensures) (registers .kept .0)
 
 slice-aggregate-put : tie.Need-slice-aggregate-put
-slice-aggregate-put c =
-    let at-start = c .before .before .before .before .before .before .before .before .before .before .before .before .before .before .before .before .before .before .before .before in
-    sym (length-take-le _ _ (at-start .pre .written))
+slice-aggregate-put c = sym (length-take-le _ _ (search needs))
 
 put-requires : tie.Need-put-requires
 put-requires c κs =
