@@ -134,14 +134,14 @@ run-saves start ks budget e m mem con file view count room offset =
 
 pub two-halves : TwoHalves
 unfolding TwoHalves GoesOn
-two-halves start first second e m mem con file view fits saved mem′ same =
+two-halves start first second e m mem con file view fits saved mem′ con′ same later =
     let whole : runAnswer buffered [] (first + second) start ≡ Accepted = answer-of [] (first + second) start e in
     let half = smaller (first + second) first start (omega arith) whole in
     let budget = budget-less (first + second) second (omega arith) (tests [] (first + second) start whole .5) in
     let a = save-accepts m mem con file saved in
     let t = viewOf m mem con in
     let accepted = second-accepted [] first second start t view half budget (count-below (length mem) (m .cpu) (a .registers)) in
-    ap (λ (s : State (List Entry)). run buffered [] second s .state) (goes-on m mem con file fits saved (none-taken second t accepted) mem′ same)
+    ap (λ (s : State (List Entry)). run buffered [] second s .state) (goes-on m mem con file fits saved (none-taken second t accepted) mem′ con′ same later)
     ∙ run-after second t accepted
     ∙ ap (after buffered [] second) (view ∙ run-after first start half)
     ∙ sym (after-both buffered [] first second start)

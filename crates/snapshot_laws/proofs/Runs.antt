@@ -1,12 +1,12 @@
 -- Document 02, item 5: runs of a machine that was read: none refuses it by what the file holds; a machine that has taken no keys goes on as if it had not been
 -- saved; and demand 3, where no entries were saved.
-use Prim.Native.Nat.{ℕ, _-_}
+use Prim.Native.Nat.{ℕ, _-_, _≤_}
 use native.Mathlib.Omega.{arith}
 use mathlib.Core.Bool.{Bool, true}
 use mathlib.Core.List.{List, [], _++_}
 use mathlib.Core.Path.{_≡_, sym, _∙_, ap, subst}
 use borrow.Author.Tests.{le-leb}
-use lib.ListN.{replicate, length-append, take-append-drop}
+use lib.ListN.{length, take, drop, replicate, length-append, take-append-drop}
 use lib.Seq.{take-at}
 use Rattle.word.specs.Word.{if_then_else_}
 use Rattle.memory.specs.Memory.{sizeOk}
@@ -72,13 +72,16 @@ none-taken-same c e = λ i. record {
 
 pub goes-on : GoesOn
 unfolding GoesOn SavedRead
-goes-on m mem con file fits e none mem′ same =
+goes-on m mem con file fits e none mem′ con′ same later =
     let a = save-accepts m mem con file e in
-    ap restored (saved-read m mem con file fits e mem′ con same (a .console))
+    let room : m .cpu .written ≤ length con′ = omega (arith, a .console, later .0) in
+    let whole : take (m .cpu .written) con ++ drop (m .cpu .written) con′ ≡ con =
+    ap (λ (l : List ℕ). take (m .cpu .written) con ++ l) (later .1) ∙ take-append-drop (m .cpu .written) con in
+    ap restored (saved-read m mem con file fits e mem′ con′ same room)
     ∙ (λ i. record {
       cpu = none-taken-same (m .cpu) none i;
       mem = mem;
-      console = take-append-drop (m .cpu .written) con i;
+      console = whole i;
       buffer = carried-entries m i;
     })
 

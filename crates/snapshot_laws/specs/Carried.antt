@@ -84,20 +84,24 @@ ReadRuns =
     → run buffered ks budget (restored (read file mem con)) .answer
     ≡ (if keysOk ks 0 then (if budgetOk budget then Accepted else BadBudget) else BadKeys)
 
--- a machine that has taken no keys, read into the console that it was saved with, is the same in all that a run starts from
+-- a console into which a machine is read as it was: of the same size, and its bytes past the count are the same
+abbrev pub SameConsole : Machine → (con con′ : List ℕ) → Type 0
+SameConsole m con con′ = (length con′ ≡ length con) × (drop (m .cpu .written) con′ ≡ drop (m .cpu .written) con)
+
+-- a machine that has taken no keys, read into such a console, is the same in all that a run starts from
 unfoldable pub GoesOn : Type 0
 GoesOn =
     (m : Machine) (mem con file : List ℕ) → Fits (m .cpu) → save m mem con file .answer ≡ saves.Accepted → m .cpu .clock .taken ≡ 0
-    → (mem′ : List ℕ) → length mem′ ≡ length mem
-    → restored (read (savedBytes m mem con file) mem′ con) ≡ viewOf m mem con
+    → (mem′ con′ : List ℕ) → length mem′ ≡ length mem → SameConsole m con con′
+    → restored (read (savedBytes m mem con file) mem′ con′) ≡ viewOf m mem con
 
 -- a run without keys in two halves, saved between them and read back, comes to where one run of both budgets comes
 unfoldable pub TwoHalves : Type 0
 TwoHalves =
     (start : State (List Entry)) (first second : ℕ) → run buffered [] (first + second) start .answer ≡ Accepted
     → (m : Machine) (mem con file : List ℕ) → viewOf m mem con ≡ run buffered [] first start .state → Fits (m .cpu)
-    → save m mem con file .answer ≡ saves.Accepted → (mem′ : List ℕ) → length mem′ ≡ length mem
-    → run buffered [] second (restored (read (savedBytes m mem con file) mem′ con)) .state ≡ run buffered [] (first + second) start .state
+    → save m mem con file .answer ≡ saves.Accepted → (mem′ con′ : List ℕ) → length mem′ ≡ length mem → SameConsole m con con′
+    → run buffered [] second (restored (read (savedBytes m mem con file) mem′ con′)) .state ≡ run buffered [] (first + second) start .state
 
 -- "After reading, demand 3 is claimed only if no entries were saved"
 unfoldable pub Demand3AfterRead : Type 0
