@@ -1,6 +1,7 @@
 pub mod RecordNumbers
 pub mod Leaves
 pub mod LowBits
+pub mod TreeInvariant
 pub mod StepTree
 pub mod StepSpace
 pub mod Kept
@@ -15,4 +16,5 @@ pub mod AcceptableRecord
 pub mod AcceptedRun
 mod InterruptFrame
 pub mod StepCount
+pub mod StepsInParts
 pub mod NoSteps

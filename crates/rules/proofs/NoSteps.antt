@@ -1,6 +1,6 @@
 -- Document 01, "Numbers returned": runs that make no step: "A refused run returns the record given and zero steps; memory and console keep their bytes"; one that
 -- "starts stopped, or has budget 0, is accepted with zero steps and no change". Of each machine.
-use Prim.Native.Nat.{ℕ, zero, suc}
+use Prim.Native.Nat.{ℕ}
 use mathlib.Core.Path.{_≡_, refl}
 use mathlib.Core.Bool.{Bool, true, false}
 use mathlib.Core.List.{List, []}
@@ -10,6 +10,7 @@ use Rattle.rules.specs.declared.Key.{Key}
 use Rattle.rules.specs.Record.{isRunning}
 use Rattle.rules.specs.Step.{State}
 use Rattle.rules.specs.Run.{isAccepted, allowance, runAnswer, stepsOf, run, reported}
+use Rattle.rules.proofs.StepsInParts.{stopped-steps}
 
 module _ {B : Type 0} (tr : Translator B) (ks : List Key) (budget : ℕ) (s : State B) where
   -- a run that makes no step ends in the state that it starts from
@@ -33,10 +34,5 @@ module _ {B : Type 0} (tr : Translator B) (ks : List Key) (budget : ℕ) (s : St
       go true = e
       go false = refl
 
-  stopped-steps : (n : ℕ) → isRunning (s .cpu .stop) ≡ false → stepsOf tr ks n s ≡ []
-  unfolding stepsOf
-  stopped-steps zero e = refl
-  stopped-steps (suc n) e = rw e
-
   pub stopped-run : isRunning (s .cpu .stop) ≡ false → NoSteps
-  stopped-run e = no-steps refl (stopped-steps (allowance (runAnswer tr ks budget s) budget) e)
+  stopped-run e = no-steps refl (stopped-steps tr ks (allowance (runAnswer tr ks budget s) budget) s e)

@@ -3,63 +3,32 @@
 use Prim.Native.Nat.{ℕ}
 use mathlib.Core.Path.{_≡_, refl, _∙_}
 use mathlib.Core.Bool.{Bool, true}
-use mathlib.Core.List.{List, [], _∷_, _++_}
+use mathlib.Core.List.{List, [], _∷_}
 use lib.ListN.{length}
 use Rattle.memory.specs.Memory.{storeN}
 use Rattle.memory.proofs.Laws.{length-store}
-use Rattle.paging.specs.declared.Answer.{Answer}
-use Rattle.paging.specs.declared.Answer.the-variants.{At, Denied}
 use Rattle.paging.specs.declared.Entry.{Entry}
 use Rattle.paging.specs.declared.Space.{Space}
 use Rattle.paging.specs.Buffer.{bufferOk}
-use Rattle.paging.specs.Translate.{Outcome, buffered}
+use Rattle.paging.specs.Translate.{buffered}
 use Rattle.paging.proofs.BufferLaws.{empty-ok}
 use Rattle.paging.proofs.ValidBuffer.{Valid, Keeps, keeps-all, keeps-both, request-keeps}
 use Rattle.rules.specs.declared.Key.{Key}
 use Rattle.rules.specs.declared.Next.{Next}
-use Rattle.rules.specs.Tree.{Ask, access, slots, Tree, ask, done, Grant, storeAll, slot, requested, secondSlot, firstSlot, answered, interpret}
+use Rattle.rules.specs.Tree.{Tree, Grant, storeAll, interpret}
 use Rattle.rules.specs.Trap.{Effect, none, setSpace, deliver, print}
 use Rattle.rules.specs.Clock.{nextOf}
 use Rattle.rules.specs.Step.{stepTree, State, bufferAfter, stepBy, step}
 use Rattle.rules.proofs.Leaves.{leaf-at}
+use Rattle.rules.proofs.TreeInvariant.{tree-invariant}
 use Rattle.rules.proofs.StepSpace.{step-aligned}
 
 -- ---- the accesses of a step
 
-module _ (s : Space) where
-  -- the slots of a frame: the second, then the first
-  second-keeps : (m : List ℕ) (p : ℕ) (b b′ : Outcome (List Entry) Answer) → Keeps s m (b .mem) (b .buffer) → Keeps s (b .mem) (b′ .mem) (b′ .buffer) → (x : Answer)
-      → Keeps s m (secondSlot buffered p (b .events) b′ x .mem) (secondSlot buffered p (b .events) b′ x .buffer)
-  unfolding secondSlot
-  second-keeps m p b b′ g h (At q) = keeps-both g h
-  second-keeps m p b b′ g h (Denied f) = keeps-both g h
-
-  first-keeps : (m : List ℕ) (va : ℕ) (b : Outcome (List Entry) Answer) → Keeps s m (b .mem) (b .buffer) → (x : Answer)
-      → Keeps s m (firstSlot buffered s va b x .mem) (firstSlot buffered s va b x .buffer)
-  unfolding firstSlot
-  first-keeps m va b g (At p) =
-      let t = buffered .translate s (slot va) (b .mem) (b .buffer) in
-      second-keeps m p b t g (request-keeps s (slot va) (b .mem) (b .buffer) (g .valid)) (t .answer)
-  first-keeps m va b g (Denied f) = g
-
-  -- one ask
-  ask-keeps : (user : Bool) (q : Ask) (m : List ℕ) (es : List Entry) → Valid s m es
-      → Keeps s m (answered buffered s user q m es .mem) (answered buffered s user q m es .buffer)
-  unfolding answered
-  ask-keeps user (access k n va) m es v = request-keeps s (requested k n va user) m es v
-  ask-keeps user (slots x y) m es v =
-      let t = buffered .translate s (slot x) m es in
-      first-keeps m y t (request-keeps s (slot x) m es v) (t .answer)
-
-  -- a whole tree
-  pub tree-keeps : {A : Type 0} (user : Bool) (x : Tree A) (m : List ℕ) (es : List Entry) (gs : List Grant) → Valid s m es
-      → Keeps s m (interpret buffered s user x m es gs .mem) (interpret buffered s user x m es gs .buffer)
-  unfolding interpret
-  tree-keeps user (done a) m es gs v = keeps-all v
-  tree-keeps user (ask q k) m es gs v =
-      let b = answered buffered s user q m es in
-      let g = ask-keeps user q m es v in
-      keeps-both g (tree-keeps user (k (b .answer .reply)) (b .mem) (b .buffer) (b .answer .grants ++ gs) (g .valid))
+pub tree-keeps : {A : Type 0} (s : Space) (user : Bool) (x : Tree A) (m : List ℕ) (es : List Entry) (gs : List Grant) → Valid s m es
+    → Keeps s m (interpret buffered s user x m es gs .mem) (interpret buffered s user x m es gs .buffer)
+tree-keeps s user x m es gs v =
+    tree-invariant buffered s (λ evs n fs. Keeps s m n fs) (λ q evs n fs g. keeps-both g (request-keeps s q n fs (g .valid))) user x [] m es gs (keeps-all v)
 
 -- ---- its end
 

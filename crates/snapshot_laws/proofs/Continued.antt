@@ -1,10 +1,9 @@
 -- Document 02, item 5: runs before a save and after a read: a machine that a run has left can be saved; and "A machine saved on the barge should go on in the
 -- office": a run in two halves with a file between them is the whole run.
-use Prim.Native.Nat.{ℕ, zero, suc, _+_, _^_, _≤_}
-use native.Mathlib.Nat.{zero-add, suc-add}
+use Prim.Native.Nat.{ℕ, _+_, _^_, _≤_}
 use native.Mathlib.Omega.{arith}
-use mathlib.Core.Bool.{Bool, true, false}
-use mathlib.Core.List.{List, [], _∷_}
+use mathlib.Core.Bool.{Bool, true}
+use mathlib.Core.List.{List, []}
 use mathlib.Core.Path.{_≡_, refl, sym, _∙_, ap}
 use borrow.Author.Tests.{leb-true, le-leb, lt-ltb}
 use lib.Dec.{leb, ltb}
@@ -17,11 +16,11 @@ use Rattle.paging.specs.Translate.{Translator, buffered}
 use Rattle.rules.specs.declared.Cpu.{Cpu}
 use Rattle.rules.specs.declared.Key.{Key}
 use Rattle.rules.specs.declared.RunAnswer.the-variants.{Accepted, BadRegisters}
-use Rattle.rules.specs.Record.{isRunning}
 use Rattle.rules.specs.Run.{registersOk, keysRise, keysOk, consoleOk, budgetOk, isAccepted, runAnswer, stepsOf, lastOf, run}
-use Rattle.rules.specs.Step.{State, Stepped, step}
+use Rattle.rules.specs.Step.{State}
 use Rattle.rules.proofs.AcceptableRecord.{registers-acceptable, acceptable-registers}
 use Rattle.rules.proofs.AcceptedRun.{accepted-tests}
+use Rattle.rules.proofs.StepsInParts.{last-both, steps-both}
 use Rattle.acceptable.proofs.AcceptableRun.{buffered-again}
 use Rattle.refusals.specs.View.{viewOf}
 use Rattle.machine_file.specs.Layout.{memoryAt, lengthBy, countsOf}
@@ -39,40 +38,9 @@ module _ {B : Type 0} (tr : Translator B) (ks : List Key) where
   abbrev after : ℕ → State B → State B
   after n s = lastOf s (stepsOf tr ks n s)
 
-  stopped-stays : (n : ℕ) (s : State B) → isRunning (s .cpu .stop) ≡ false → after n s ≡ s
-  unfolding stepsOf lastOf
-  stopped-stays zero s e = refl
-  stopped-stays (suc n) s e = rw e
-
-  next : (b : Bool) (n : ℕ) (s : State B) → State B
-  next b n s = if b then after n (step tr ks s .state) else s
-
-  after-step : (n : ℕ) (s : State B) → after (suc n) s ≡ next (isRunning (s .cpu .stop)) n s
-  unfolding stepsOf lastOf next
-  after-step n s = go (isRunning (s .cpu .stop))
-    where
-      t : Stepped B
-      t = step tr ks s
-
-      go : (b : Bool) → lastOf s (if b then t ∷ stepsOf tr ks n (t .state) else []) ≡ (if b then lastOf (t .state) (stepsOf tr ks n (t .state)) else s)
-      go true = refl
-      go false = refl
-
-  both-by : (b : Bool) (n p : ℕ) (s : State B) → isRunning (s .cpu .stop) ≡ b → after (n + p) (step tr ks s .state) ≡ after p (after n (step tr ks s .state))
-      → next b (n + p) s ≡ after p (next b n s)
-  unfolding next
-  both-by true n p s e h = h
-  both-by false n p s e h = sym (stopped-stays p s e)
-
   -- n steps and then p are n + p
   after-both : (n p : ℕ) (s : State B) → after (n + p) s ≡ after p (after n s)
-  unfolding stepsOf lastOf
-  after-both zero p s = ap (λ (k : ℕ). after k s) (zero-add p)
-  after-both (suc n) p s =
-      ap (λ (k : ℕ). after k s) (suc-add n p)
-      ∙ after-step (n + p) s
-      ∙ both-by (isRunning (s .cpu .stop)) n p s refl (after-both n p (step tr ks s .state))
-      ∙ ap (after p) (sym (after-step n s))
+  after-both n p s = ap (lastOf s) (steps-both tr ks n p s) ∙ last-both s (stepsOf tr ks n s) (stepsOf tr ks p (after n s))
 
 -- ---- runs
 
