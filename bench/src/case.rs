@@ -15,10 +15,11 @@ pub struct Case {
     pub runs: Vec<Run>,
 }
 
-/// The library's entries, by their numbers in a case.
+/// The library's entries, by their numbers in a case; the last is `run_packed` in calls of budget 1.
 pub const RUN_PACKED: u32 = 2;
 pub const SINGLE_STEP: u32 = 4;
-const ALL: [u32; 3] = [1, RUN_PACKED, SINGLE_STEP];
+const PACKED_BY_ONE: u32 = 8;
+const ALL: [u32; 4] = [1, RUN_PACKED, SINGLE_STEP, PACKED_BY_ONE];
 
 /// The record's numbers in the order of the format. A further field of `Machine` gets its place here.
 macro_rules! numbers {
@@ -156,7 +157,7 @@ pub fn result_lines(bytes: &[u8]) -> String {
         } else {
             let [size, fill, length] = from.sizes();
             let (answer, machine) = load(from.bytes(length), vec![fill as u8; size]);
-            out.push_str(&line([number, 0], Outcome { answer, steps: 0 }, &machine));
+            out.push_str(&line([number, 0], Outcome { answer, steps: 0, walks: 0 }, &machine));
         }
     }
     out
@@ -167,10 +168,11 @@ fn run_lines(number: usize, case: &Case, out: &mut String) {
     for entry in ALL.iter().filter(|entry| case.entries & **entry != 0) {
         let mut machine = case.machine.clone();
         for (at, run) in case.runs.iter().enumerate() {
-            let outcome = if *entry == SINGLE_STEP {
-                calls_of_one(&mut machine, run)
-            } else {
-                machine.run(&run.keys, run.budget)
+            let outcome = match *entry {
+                // returns its answer alone
+                SINGLE_STEP => Outcome { walks: 0, ..calls_of_one(&mut machine, run) },
+                PACKED_BY_ONE => calls_of_one(&mut machine, run),
+                _ => machine.run(&run.keys, run.budget),
             };
             out.push_str(&line([number, at], outcome, &machine));
         }
@@ -180,23 +182,24 @@ fn run_lines(number: usize, case: &Case, out: &mut String) {
 /// Calls of budget 1, as many as the budget has steps, to the first that makes none; what document 01 makes different is not divided.
 fn calls_of_one(machine: &mut Machine, run: &Run) -> Outcome {
     let mut left = run.budget;
-    let mut steps = 0;
+    let [mut steps, mut walks] = [0; 2];
     loop {
         let whole = left == 0 || left > 1_000_000 || machine.count >= (1 << 63) - 1;
         let budget = if whole { left } else { 1 };
         let one = machine.run(&run.keys, budget);
         steps += one.steps;
+        walks += one.walks;
         left -= budget;
         if left == 0 || one.steps == 0 {
-            return Outcome { steps, ..one };
+            return Outcome { steps, walks, ..one };
         }
     }
 }
 
 fn line(place: [usize; 2], outcome: Outcome, m: &Machine) -> String {
     let mut list: Vec<u64> = place.map(|number| number as u64).to_vec();
-    list.extend([outcome.answer as u64, outcome.steps, m.taken as u64, m.written as u64]);
-    list.push(NUMBERS as u64);
+    list.extend([outcome.answer as u64, outcome.steps, outcome.walks]);
+    list.extend([m.taken as u64, m.written as u64, NUMBERS as u64]);
     list.extend(numbers(m));
     list.push(m.held as u64);
     for entry in &m.entries[..m.held.min(64)] {

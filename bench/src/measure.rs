@@ -38,11 +38,11 @@ pub fn held_after_whole_runs(lines: &str) -> Option<u64> {
     for line in lines.strip_suffix("end 1\n")?.lines() {
         let numbers: Vec<u64> =
             line.split(' ').map(|word| word.parse().ok()).collect::<Option<_>>()?;
-        let [_, _, answer, steps, _, _, count, ..] = numbers[..] else { return None };
+        let [_, _, answer, steps, _, _, _, count, ..] = numbers[..] else { return None };
         if answer != 0 || steps != LONG {
             return None;
         }
-        held = numbers.get(7 + count as usize).copied();
+        held = numbers.get(8 + count as usize).copied();
     }
     held
 }

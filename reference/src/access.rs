@@ -60,6 +60,7 @@ impl Machine {
         if self.is_held_word(physical, size) {
             self.coverage.held_stores[storer as usize] += 1;
             self.held_store.get_or_insert(self.regs.count);
+            self.walks.held_store = true;
         }
         words::put(&mut self.memory, physical, size, value);
     }

@@ -136,7 +136,7 @@ fn lengths() -> Vec<Vec<u8>> {
 fn fields() -> Vec<Vec<u8>> {
     let count = NAMES.len() as u32;
     let runs = [
-        (ENTRIES, 0), (ENTRIES, 8), (ENTRIES, u32::MAX),
+        (ENTRIES, 0), (ENTRIES, 16), (ENTRIES, 17), (ENTRIES, 0x100), (ENTRIES, u32::MAX),
         (SLOTS, 65), (SLOTS, u32::MAX),
         (CHUNKS, 3), (CHUNKS, u32::MAX),
         (GIVEN, 2), (GIVEN, u32::MAX), (CONSOLE, 0),
@@ -198,5 +198,7 @@ fn unbroken() -> Vec<Vec<u8>> {
         with(ENTRIES, 1),
         with(ENTRIES, 2),
         with(ENTRIES, 4),
+        with(ENTRIES, 8),
+        with(ENTRIES, 12),
     ]
 }

@@ -40,6 +40,8 @@ impl Machine {
             return None;
         }
         self.coverage.hit(access, user);
+        self.walks.hits += 1;
+        self.misread_unwalked(Mistake::HitsCounted);
         Some(entry.frame)
     }
 
@@ -49,6 +51,7 @@ impl Machine {
         let (go_last, evict) =
             (self.makes(Mistake::ReplacedGoesLast), self.makes(Mistake::OldestEvicted));
         let Some(buffer) = &mut self.buffer else { return };
+        self.walks.entered.insert(entry.page);
         if let Some(at) = buffer.position(entry.page) {
             self.coverage.replaced += 1;
             if !go_last {
@@ -76,6 +79,9 @@ impl Machine {
             self.coverage.emptied[why as usize] += 1;
         }
         buffer.count = 0;
+        if self.makes(Mistake::EmptyingRestartsWalks(why)) {
+            self.walks.made = 0;
+        }
     }
 
     /// The place of the page's entry.

@@ -66,7 +66,11 @@ impl Machines {
             Some(step) if step - first < outcome.steps => step - first,
             _ => run.budget,
         };
-        let outcomes = [&mut self.tested, &mut self.reader].map(|one| one.run(&run.keys, budget));
+        // Walks are not compared.
+        let outcomes = [&mut self.tested, &mut self.reader].map(|one| {
+            let outcome = one.run(&run.keys, budget);
+            (outcome.answer, outcome.steps)
+        });
         if answers[0] != answers[1] {
             Verdict::Different(format!("answers {answers:?}"))
         } else if let Some(text) = difference(&self.tested, &self.reader) {

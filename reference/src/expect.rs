@@ -3,7 +3,7 @@
 
 use crate::case::decode::cases;
 use crate::case::numbers::numbers;
-use crate::case::{Case, Load, Runs};
+use crate::case::{Case, Load, Runs, ENTRIES, SINGLE_STEP};
 use crate::coverage::Coverage;
 use crate::digest::digest;
 use crate::load::load_with;
@@ -13,11 +13,12 @@ use crate::run::Outcome;
 use crate::types::Record;
 use std::io::{self, Write};
 
-/// What stands after a run or load: the numbers of its line but place and
-/// digests, and what the digests are over.
+/// What stands after a run or load: its outcome, the numbers that a line has of
+/// its record, and what the digests are over.
 #[derive(PartialEq, Eq)]
 pub struct Shown {
-    numbers: Vec<u64>,
+    outcome: Outcome,
+    record: Vec<u64>,
     memory: Vec<u8>,
     console: Vec<u8>,
 }
@@ -28,8 +29,9 @@ pub struct Played {
     pub coverage: Coverage,
 }
 
-/// Plays a case, with a planted mistake if one is named. The three entries
-/// show the same, so it is played once.
+/// Plays a case, with a planted mistake if one is named. The entries show the
+/// same, but for the walks that `single_step` doesn't report, so it is played
+/// once.
 pub fn play(case: &Case, mistake: Option<Mistake>) -> Played {
     match case {
         Case::Runs(runs) => play_runs(runs, mistake),
@@ -53,13 +55,13 @@ fn play_load(case: &Load, mistake: Option<Mistake>) -> Played {
     let (answer, record) = load_with(&mut memory, &case.file, mistake);
     let mut coverage = Coverage::default();
     coverage.load(answer);
-    Played { shown: vec![show(Outcome { answer, steps: 0 }, &record, &memory, &[])], coverage }
+    let outcome = Outcome { answer, steps: 0, walks: 0 };
+    Played { shown: vec![show(outcome, &record, &memory, &[])], coverage }
 }
 
 fn show(outcome: Outcome, record: &Record, memory: &[u8], console: &[u8]) -> Shown {
-    let mut list = vec![u64::from(outcome.answer), outcome.steps];
-    list.extend(shown_record(record));
-    Shown { numbers: list, memory: memory.to_vec(), console: console.to_vec() }
+    let (memory, console) = (memory.to_vec(), console.to_vec());
+    Shown { outcome, record: shown_record(record), memory, console }
 }
 
 /// Items 5 to 7 of a line: what it has of a record.
@@ -77,25 +79,31 @@ pub fn shown_record(record: &Record) -> Vec<u64> {
 }
 
 impl Shown {
-    fn line(&self, number: usize, nth: usize) -> String {
-        let mut list = vec![number as u64, nth as u64];
-        list.extend(&self.numbers);
+    /// The line with the walks reported, and with none.
+    fn line(&self, number: usize, nth: usize) -> [String; 2] {
+        let Outcome { answer, steps, walks } = self.outcome;
+        let mut list = self.record.clone();
         list.extend(digest(&self.memory));
         list.extend(digest(&self.console));
         let words: Vec<String> = list.iter().map(u64::to_string).collect();
-        words.join(" ")
+        let rest = words.join(" ");
+        [walks, 0].map(|walks| format!("{number} {nth} {answer} {steps} {walks} {rest}"))
     }
 }
 
 /// The lines of case `number`: those of its runs, once for each of its entries.
 pub fn lines(number: usize, case: &Case, played: &Played) -> Vec<String> {
-    let times = match case {
-        Case::Runs(runs) => runs.entries.count_ones(),
+    let entries = match case {
+        Case::Runs(runs) => runs.entries,
         Case::Load(_) => 1,
     };
-    let once: Vec<String> =
+    let once: Vec<[String; 2]> =
         played.shown.iter().enumerate().map(|(nth, shown)| shown.line(number, nth)).collect();
-    (0..times).flat_map(|_| once.clone()).collect()
+    let by_entry = |entry: u32| {
+        let unreported = usize::from(entry == SINGLE_STEP);
+        once.iter().map(move |lines| lines[unreported].clone())
+    };
+    ENTRIES.into_iter().filter(|entry| entries & entry != 0).flat_map(by_entry).collect()
 }
 
 /// Writes all that must come out of a stream, and gives what was covered.

@@ -1,6 +1,7 @@
 //! Families of planted mistakes: one for each opcode, refusal, trap, bit or
 //! field that a slip could be made in.
 
+use crate::coverage::Emptied;
 use crate::mistake::Mistake;
 use crate::opcodes::decode::{decode, Op};
 use crate::opcodes::kinds::{can_fault_in_kernel, drops_bits, reads};
@@ -30,7 +31,8 @@ fn by_opcode(
 }
 
 pub fn families() -> Vec<Family<Mistake>> {
-    [opcodes(), operands(), accesses(), causes(), numbers()].into_iter().flatten().collect()
+    let lists = [opcodes(), operands(), accesses(), causes(), walks(), numbers()];
+    lists.into_iter().flatten().collect()
 }
 
 fn opcodes() -> Vec<Family<Mistake>> {
@@ -115,11 +117,16 @@ fn causes() -> Vec<Family<Mistake>> {
     ]
 }
 
+/// Each access in kernel mode and in user mode.
+fn by_mode() -> impl Iterator<Item = (Access, bool)> {
+    Access::ALL.into_iter().flat_map(|access| [(access, false), (access, true)])
+}
+
 /// Each cause, where it can come, as each other and as none.
 fn misnamed() -> Vec<Mistake> {
     let mut list = Vec::new();
     for cause in Cause::ALL {
-        for (access, user) in Access::ALL.into_iter().flat_map(|one| [(one, false), (one, true)]) {
+        for (access, user) in by_mode() {
             let others = Cause::ALL.into_iter().filter(|other| *other != cause);
             let named = others.map(|other| Mistake::CauseNamed(cause, other, access, user));
             list.extend(named.filter(|_| cause.comes(access, user)));
@@ -135,6 +142,28 @@ fn forgetting() -> Vec<Mistake> {
     let pairs = traps.into_iter().flat_map(|trap| ends.map(|stop| (trap, stop)));
     let comes = |pair: &(Trap, Stop)| !(pair.0.is_interrupt() && pair.1 == Stop::Masked);
     pairs.filter(comes).map(|(trap, stop)| Mistake::TrapForgetsCause(trap, stop)).collect()
+}
+
+fn walks() -> Vec<Family<Mistake>> {
+    use Mistake::{
+        CauseUncounted, EmptyingRestartsWalks, SlotUncounted, StopUncounted, WalksInBits,
+    };
+    let uncounted = |(access, user)| Mistake::WalksUncounted(access, user);
+    // With paging on an address is never beyond memory by itself.
+    let causes = Cause::ALL.into_iter().skip(1).filter(|cause| *cause != Cause::AddressBeyond);
+    let stops = [Stop::Halted, Stop::Masked, Stop::NoFrame];
+    let emptied = [Emptied::Full, Emptied::Pdir, Emptied::Spag];
+    vec![
+        family("a walk ([0], user mode: [1]) is not counted", by_mode().map(uncounted)),
+        family("a walk refused for [0] is not counted", causes.map(CauseUncounted)),
+        family("the walk of a frame's slot [0] is not counted", (0..2).map(SlotUncounted)),
+        family("a step that stops ([0]) counts no walk", stops.map(StopUncounted)),
+        family(
+            "the count starts again where the buffer is emptied ([0])",
+            emptied.map(EmptyingRestartsWalks),
+        ),
+        family("the count of walks has [0] bits", [8, 16].map(WalksInBits)),
+    ]
 }
 
 /// All i < j of a list.

@@ -36,5 +36,6 @@ pub mod table_reader;
 pub mod translate;
 pub mod trap;
 pub mod types;
+pub mod walks;
 pub mod words;
 pub mod worked;

@@ -3,6 +3,7 @@
 use crate::coverage::Coverage;
 use crate::mistake::Mistake;
 use crate::types::{Buffer, Record, Registers};
+use crate::walks::Walks;
 
 #[derive(Clone)]
 pub struct Machine {
@@ -15,6 +16,8 @@ pub struct Machine {
     pub mistake: Option<Mistake>,
     /// The step count at the first store of demand 3's kind.
     pub held_store: Option<u64>,
+    /// What came of the table walks of the latest run.
+    pub walks: Walks,
     pub coverage: Coverage,
     /// The opcode byte of the step, for planted mistakes.
     pub opcode: u8,

@@ -139,8 +139,8 @@ fn print_expected(options: &[String]) -> Done {
 
 /// The names of a line's fields up to the page buffer's entries.
 fn print_fields() -> Done {
-    let first = ["case", "run", "answer", "reported steps", "keys taken", "console bytes", "N"];
-    println!("{},{},buffer count", first.join(","), NAMES.join(","));
+    let first = "case,run,answer,reported steps,table walks,keys taken,console bytes,N";
+    println!("{first},{},buffer count", NAMES.join(","));
     Ok(())
 }
 

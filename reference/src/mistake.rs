@@ -3,6 +3,7 @@
 //! `mutants` command and the tests plant them to show that the cases tell them
 //! apart.
 
+use crate::coverage::Emptied;
 use crate::types::{Access, Cause, Stop, Trap};
 
 /// An enum of mistakes: those that stand alone, each with what the planted code
@@ -147,6 +148,24 @@ mistakes! {
     EntryNames: "where a walk refuses, an entry without the right names the cause",
     LvadGivesCause: "LVAD gives the cause",
     FrameHoldsCause: "a frame has the cause after its code",
+    // The walks that a run reports. Document 02, item 6.
+    FaultedWalksUncounted: "a walk that ends in a fault is not counted",
+    FaultUndoesWalks: "the walks of a faulting instruction are not counted",
+    HeldPageUncounted: "a walk for a page whose entry doesn't serve is not counted",
+    SlotsUncounted: "the walks of a frame's slots are not counted",
+    SlotsCountOnce: "the walks of a frame's two slots count as one",
+    InterruptUncounted: "the walks of an interrupt's frame are not counted",
+    RefusedFrameUncounted: "the walks of the slots of a stop with 3 are not counted",
+    OneWalkAStep: "one walk a step is counted at most",
+    HitsCounted: "an access that an entry serves is counted too",
+    UnpagedCounted: "an access with paging off is counted too",
+    PdirFaultCounted: "PDIR's own fault is counted as a walk",
+    KeyRestartsWalks: "the count starts again in a step that takes a key",
+    KeyDoublesWalks: "the walks before a step that takes a key count twice",
+    KeyStepUncounted: "a step that takes a key counts no walk",
+    WalksOutlastRuns: "a run counts on from the run before it",
+    RefusedRepeatsWalks: "a refused run reports the walks of the one before it",
+    IdleRunRepeatsWalks: "an accepted run of zero steps reports the walks of the one before it",
     // Opcodes.
     BinIllegal: "BIN is illegal",
     NetworkNops: "0xb3 to 0xbb do nothing",
@@ -230,6 +249,13 @@ mistakes! {
     SlotSetsCause(u8),
     StopForgetsCause(Stop, Cause),
     TrapForgetsCause(Trap, Stop),
+    // By walks: access and mode, cause, slot, the step's stop, what empties the buffer, bits.
+    WalksUncounted(Access, bool),
+    CauseUncounted(Cause),
+    SlotUncounted(u8),
+    StopUncounted(Stop),
+    EmptyingRestartsWalks(Emptied),
+    WalksInBits(u32),
     // By numbers of refusals and traps, bits of pages, bytes of the magic, fields of the record.
     Order(u32, u32),
     TrapCode(u32, bool),

@@ -1,15 +1,17 @@
-//! A run: refusals in their order, then steps. Document 01, "Numbers returned".
+//! A run: refusals in their order, then steps. Document 01, "Numbers returned";
+//! document 02, item 6, on the walks reported.
 
 use crate::machine::Machine;
 use crate::mistake::Mistake;
 use crate::refusals::{lowest, Judged};
 use crate::types::{Key, Stop, MAX_BUDGET};
 
-/// Answer number and reported steps.
+/// Answer number, reported steps and table walks.
 #[derive(Clone, Copy, Debug, PartialEq, Eq)]
 pub struct Outcome {
     pub answer: u32,
     pub steps: u64,
+    pub walks: u64,
 }
 
 impl Machine {
@@ -18,6 +20,7 @@ impl Machine {
     pub fn run(&mut self, keys: &[Key], budget: u64) -> Outcome {
         let answer = self.answer(keys, budget);
         let first = self.regs.count;
+        let last_walks = self.begin_walks();
         if answer == 0 && self.rules_answer(keys, budget) == 0 {
             let mut left = budget;
             if self.regs.stop == Stop::Masked && self.makes(Mistake::StopsFreeFrom2) {
@@ -34,8 +37,10 @@ impl Machine {
             }
         }
         let steps = self.regs.count - first;
+        let walks = self.reported_walks(answer, steps, last_walks);
         self.coverage.end(answer, steps, self.regs.stop);
-        Outcome { answer, steps }
+        self.coverage.walked.run(&self.walks);
+        Outcome { answer, steps, walks }
     }
 
     /// The answer without a planted mistake: where that leaves a refusal out,

@@ -10,8 +10,10 @@ use crate::words;
 impl Machine {
     pub fn step(&mut self, keys: &[Key]) {
         let start = self.regs.clone();
+        self.begin_step_walks();
         self.regs.count += 1;
-        if let Some(trap) = self.clock(keys) {
+        let due = self.clock(keys);
+        if let Some(trap) = due {
             self.regs.waiting = false;
             self.coverage.causes.raised(trap);
             self.deliver(trap, self.regs.pc);
@@ -21,7 +23,8 @@ impl Machine {
             self.misread_opening(&start);
         }
         self.misread_stop(&start);
-        self.coverage.step(&start, &self.regs);
+        self.misread_step_walks(&start, due.is_some());
+        self.coverage.step(&start, &self.regs, &self.walks);
     }
 
     /// Fetch at pc; pc moves 4 on; execute. A faulting instruction leaves the

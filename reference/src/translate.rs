@@ -1,10 +1,11 @@
 //! From an address to a physical address or a fault, and the walk through
-//! directory and table. Document 01, "Addresses"; document 02, item 4, on the
-//! causes.
+//! directory and table. Document 01, "Addresses"; document 02, items 4 and 6, on
+//! the causes and on what counts as a walk.
 
 use crate::machine::Machine;
 use crate::mistake::Mistake;
 use crate::types::{Access, Cause, Entry, Fault, Origin, Trap, PAGE};
+use crate::walks::Walk;
 use crate::words;
 
 /// Bits of directory and table words.
@@ -39,18 +40,20 @@ impl Machine {
     /// neither.
     pub fn translate(&mut self, address: u32, access: Access, user: bool) -> Result<u32, Fault> {
         if !self.regs.paging {
+            self.misread_unwalked(Mistake::UnpagedCounted);
             return self.translate_unpaged(address);
         }
-        let offset = address % PAGE;
-        if let Some(frame) = self.hit(address / PAGE, access, user) {
+        let (page, offset) = (address / PAGE, address % PAGE);
+        if let Some(frame) = self.hit(page, access, user) {
             self.misread_reset(Mistake::HitForgetsCause);
             return Ok(frame * PAGE + offset);
         }
-        self.misread_entry(address / PAGE, access, user)?;
+        self.misread_entry(page, access, user)?;
+        let held = self.buffer.as_ref().is_some_and(|buffer| buffer.position(page).is_some());
         let answer = self.walk(address, access, user);
-        self.coverage.walk(access, user, answer.is_ok());
+        self.count_walk(Walk { access, user, held, cause: answer.err().map(|fault| fault.cause) });
         if answer.is_err() {
-            self.misread_fault(address / PAGE);
+            self.misread_fault(page);
         } else {
             self.misread_reset(Mistake::WalkForgetsCause);
         }

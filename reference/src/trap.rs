@@ -15,6 +15,7 @@ impl Machine {
     /// leaves them so.
     pub fn fault(&mut self, trap: Trap, return_pc: u32) {
         self.coverage.causes.raised(trap);
+        self.misread_fault_walks();
         if self.regs.iena {
             self.deliver(trap, return_pc);
         } else {
@@ -65,7 +66,9 @@ impl Machine {
     /// cause. `nth` is 0 for the pc's slot, 1 for the code's.
     fn frame_slot(&mut self, nth: u8, slot: u32) -> Option<u32> {
         let user = self.regs.user && self.makes(Mistake::SlotsByMode);
+        let before = self.walks.in_step;
         let answer = self.translate(slot, Access::Write, user);
+        self.count_slot(nth, self.walks.in_step - before);
         if let Err(fault) = answer {
             self.regs.stop = Stop::NoFrame;
             self.regs.vadr = self.pick(Mistake::SlotSetsVadr, slot, self.regs.vadr);

@@ -48,7 +48,7 @@ fn good_streams_say_how_many_cases_they_had() {
     assert_eq!(printed(&[]), "end 0\n");
     assert_eq!(printed(&[0; 4]), "end 0\n");
     let text = printed(&[good(), load(), vec![0; 4], vec![9; 3]].concat());
-    assert_eq!(text.lines().count(), 3 + 1 + 1);
+    assert_eq!(text.lines().count(), 4 + 1 + 1);
     assert!(text.ends_with("\nend 2\n"));
 }
 

@@ -1,4 +1,4 @@
-//! FORMAT.md's example is what the program reads and writes.
+//! FORMAT.md's examples are what the program reads and writes.
 
 use reference::case::decode::read_all;
 use reference::case::encode::encode;
@@ -16,9 +16,17 @@ fn example() -> Case {
     runs.into()
 }
 
-#[test]
-fn documented_example() {
-    let text = FORMAT.split("## Example").nth(1).unwrap();
+/// The same with paging: the word at 0 is directory and table.
+fn paged_example() -> Case {
+    let regs = Registers { sp: 4096, pc: 4, paging: true, ..Registers::default() };
+    let mut runs = Runs::new(4096, regs).words(0, &[7, op("LI", 7)]).run(1);
+    runs.entries = 13;
+    runs.into()
+}
+
+/// The example after the `nth` such title.
+fn documented(nth: usize, example: fn() -> Case) {
+    let text = FORMAT.split("## Example").nth(nth).unwrap();
     let (input, output) = text.split_once("gives").unwrap();
     let block = |text: &'static str| text.lines().filter_map(|line| line.strip_prefix("    "));
     let digits: String = block(input).flat_map(|line| line.split(' ')).collect();
@@ -30,6 +38,12 @@ fn documented_example() {
     let mut written = Vec::new();
     expect(&bytes, &mut written).unwrap();
     assert_eq!(written, block(output).flat_map(|line| [line, "\n"]).collect::<String>().as_bytes());
+}
+
+#[test]
+fn documented_examples() {
+    documented(1, example);
+    documented(2, paged_example);
 }
 
 #[test]

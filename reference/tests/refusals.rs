@@ -67,7 +67,7 @@ fn answers(runs: &Runs) -> [u32; 2] {
         let given = machine.record();
         let outcome = machine.run(&runs.runs[0].keys, runs.runs[0].budget);
         if outcome.answer != 0 {
-            assert_eq!(outcome.steps, 0);
+            assert_eq!((outcome.steps, outcome.walks), (0, 0));
             assert!(machine.record() == given);
             assert!(machine.memory == runs.memory && machine.console == runs.console);
         }

@@ -25,7 +25,8 @@ fn a_refused_run_leaves_everything() {
         let after = after(&name);
         if after.outcomes[0].answer != 0 || name.contains("stopped") || name.contains("budget 0") {
             assert!(after.machine.record() == runs(&name).record, "{name}");
-            assert!(after.memory_is_unchanged() && after.outcomes[0].steps == 0, "{name}");
+            assert!(after.memory_is_unchanged(), "{name}");
+            assert_eq!((after.outcomes[0].steps, after.outcomes[0].walks), (0, 0), "{name}");
         }
     }
 }

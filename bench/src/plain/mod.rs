@@ -1,4 +1,4 @@
-//! A plain, idiomatic interpreter of the rules of document 01 with items 1 and 4 of document 02: `&mut self` methods, a match on the opcode byte,
+//! A plain, idiomatic interpreter of the rules of document 01 with items 1, 4 and 6 of document 02: `&mut self` methods, a match on the opcode byte,
 //! `Result` and `?`, slices with bounds checks, one byte at a time for block opcodes.
 
 mod execute;
@@ -63,15 +63,18 @@ pub struct Machine {
     pub written: usize,
     pub held: usize,
     pub entries: [Entry; 64],
+    /// Table walks of the run; no part of the record.
+    pub walks: u64,
     pub memory: Vec<u8>,
     pub console: Vec<u8>,
 }
 
-/// What a run gives: the answer's number and the steps made.
+/// What a run gives: the answer's number, the steps made and their table walks.
 #[derive(Clone, Copy)]
 pub struct Outcome {
     pub answer: u32,
     pub steps: u64,
+    pub walks: u64,
 }
 
 impl Machine {
@@ -104,6 +107,7 @@ impl Machine {
             written: 0,
             held: 0,
             entries: [Entry::default(); 64],
+            walks: 0,
             memory,
             console,
         }
@@ -113,11 +117,12 @@ impl Machine {
     pub fn run(&mut self, keys: &[Key], budget: u64) -> Outcome {
         let answer = self.refusal(keys, budget);
         let mut steps = 0;
+        self.walks = 0;
         while answer == 0 && steps < budget && self.stop == 0 {
             self.step(keys);
             steps += 1;
         }
-        Outcome { answer, steps }
+        Outcome { answer, steps, walks: self.walks }
     }
 
     fn step(&mut self, keys: &[Key]) {

@@ -51,6 +51,7 @@ impl Machine {
     }
 
     fn walk(&mut self, va: u32, access: Access, user: bool) -> Result<usize, Fault> {
+        self.walks += 1;
         let page_fault = access.page_fault();
         let directory_at = (self.pdir + 4 * (va >> 22)) as usize;
         let directory = self.word(directory_at);

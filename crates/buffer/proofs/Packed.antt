@@ -12,8 +12,9 @@ use borrow.Author.Tests.{ltb-true}
 use Rattle.paging.specs.declared.Entry.{Entry}
 use Rattle.paging.specs.Buffer.{has, entryPage, entryOk, entriesOk, bufferOk}
 use Rattle.word.proofs.BoolLaws.{both}
-use Rattle.buffer.specs.Held.{frames, pageIn, count, entry, unpack, entriesIn, Buffer}
-use Rattle.buffer.proofs.Slots.{length-held, held-at, map-snoc}
+use Rattle.paging.specs.Counting.{counted}
+use Rattle.buffer.specs.Held.{frames, pageIn, count, entry, unpack, entriesIn, lent, Buffer}
+use Rattle.buffer.proofs.Slots.{length-held, held-at, map-snoc, held-raised, buffer-raised, walks-raised}
 use Rattle.buffer.proofs.Entries.{buffer-entries}
 
 abbrev zeros : Entry
@@ -50,22 +51,24 @@ frame-fits size n es i m h k =
 -- ---- into the lent array
 
 module _ (n : ℕ) (es : List Entry) (z : length es ≡ 64) (few : n ≤ 64) where
-  pub packed-next : (l : List ℕ) (i e : ℕ) → length l ≡ 65 → i < n → map unpack (take i l) ≡ take i es → unpack e ≡ getD es i zeros
+  pub packed-next : (l : List ℕ) (i e : ℕ) → length l ≡ 66 → i < n → map unpack (take i l) ≡ take i es → unpack e ≡ getD es i zeros
       → map unpack (take (i + 1) (set l i e)) ≡ take (i + 1) es
   packed-next l i e y h inv q =
       let a : i < length l = omega arith in
       let b : i < length es = omega arith in
       rw (add-one i, take-suc-set l i e a, map-snoc unpack (take i l) e, inv, q, take-suc es i zeros b)
 
-  pub packed-all : (l : List ℕ) (i : ℕ) → length l ≡ 65 → i ≤ n → n ≤ i → map unpack (take i l) ≡ take i es
-      → (entriesIn (set l 64 n) ≡ take n es) × Buffer (set l 64 n)
+  pub packed-all : (l : List ℕ) (i w : ℕ) → length l ≡ 66 → i ≤ n → n ≤ i → map unpack (take i l) ≡ take i es
+      → (lent (set (set l 64 n) 65 w) ≡ counted (take n es) w) × Buffer (set (set l 64 n) 65 w)
   unfolding entriesIn
-  packed-all l i y h k inv′ =
+  packed-all l i w y h k inv′ =
       let q : i ≡ n = omega arith in
       let inv : map unpack (take n l) ≡ take n es = rw q at inv′ in
       let a : 64 < length l = omega arith in
       let c = getD-set-same l 64 n 0 a in
-      (rw (c, take-set-le n l 64 n few) inv, record { size = length-set l 64 n ∙ y; few = rw c few })
+      let b : Buffer (set l 64 n) = record { size = length-set l 64 n ∙ y; few = rw c few } in
+      let e : entriesIn (set l 64 n) ≡ take n es = rw (c, take-set-le n l 64 n few) inv in
+      (rw (held-raised (set l 64 n) b w, walks-raised (set l 64 n) b w, e), buffer-raised (set l 64 n) b w)
 
 -- ---- out of the lent array
 

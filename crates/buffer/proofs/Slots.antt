@@ -6,7 +6,9 @@ use mathlib.Core.Path.{_≡_, refl, ap, _∙_}
 use mathlib.Core.List.{List, [], _∷_, _++_, map}
 use lib.ListN.{length, getD, take, set, length-map, length-set, List·getD-map}
 use lib.Seq.{length-take-le, getD-take, getD-set-same, getD-set-other, take-set-lt, take-set-le, take-suc-set}
-use Rattle.buffer.specs.Held.{count, unpack, entriesIn, Buffer}
+use Rattle.paging.specs.declared.Entry.{Entry}
+use Rattle.paging.specs.Counting.{counted}
+use Rattle.buffer.specs.Held.{count, walks, unpack, entriesIn, lent, Buffer}
 
 pub length-held : (l : List ℕ) → Buffer l → length (entriesIn l) ≡ count l
 unfolding entriesIn
@@ -24,6 +26,14 @@ map-set f (x ∷ xs) (suc i) a = ap (λ (ys : List _). f x ∷ ys) (map-set f xs
 pub map-snoc : {A B : Type 0} (f : A → B) (l : List A) (a : A) → map f (l ++ (a ∷ [])) ≡ map f l ++ (f a ∷ [])
 map-snoc f [] a = refl
 map-snoc f (x ∷ xs) a = ap (λ (ys : List _). f x ∷ ys) (map-snoc f xs a)
+
+-- other entries, and as many walks
+pub lent-is : (l l′ : List ℕ) {es : List Entry} → entriesIn l′ ≡ es → walks l′ ≡ walks l → lent l′ ≡ counted es (walks l)
+lent-is l l′ p q = rw (p, q)
+
+-- a slot or the count set anew
+pub walks-set : (l : List ℕ) (i e : ℕ) → i ≤ 64 → walks (set l i e) ≡ walks l
+walks-set l i e h = getD-set-other l i 65 e 0 (λ q. omega arith)
 
 module _ (l : List ℕ) (b : Buffer l) where
   -- the count set anew
@@ -60,3 +70,15 @@ module _ (l : List ℕ) (b : Buffer l) where
         let k″ : suc i ≤ 64 = omega arith in
         rw (getD-set-same (set l i e) 64 (i + 1) 0 k, add-one i, take-set-le (suc i) (set l i e) 64 (suc i) k″, take-suc-set l i e k′)
         (map-snoc unpack (take i l) e)
+
+  -- the walks set anew
+  module _ (n : ℕ) where
+    pub held-raised : entriesIn (set l 65 n) ≡ entriesIn l
+    unfolding entriesIn
+    held-raised = rw (getD-set-other l 65 64 n 0 (λ q. omega arith), take-set-le (count l) l 65 n (omega arith))
+
+    pub buffer-raised : Buffer (set l 65 n)
+    buffer-raised = record { size = length-set l 65 n ∙ b .size; few = rw (getD-set-other l 65 64 n 0 (λ q. omega arith)) (b .few) }
+
+    pub walks-raised : walks (set l 65 n) ≡ n
+    walks-raised = getD-set-same l 65 n 0 (omega (arith, b .size))

@@ -1,5 +1,5 @@
--- Document 01, "Addresses": the page buffer as it is lent, one array of numbers. Its layout is decided here alone: 64 slots with an entry each,
--- then the count of entries. A slot past the count may hold anything.
+-- Document 01, "Addresses", and document 02, item 6: the page buffer as it is lent, one array of numbers. Its layout is decided here alone: 64 slots with an
+-- entry each, then the count of entries, then the table walks counted. A slot past the count may hold anything.
 use Prim.Native.Nat.{ℕ, suc, _/_, _%_, _≤_}
 use mathlib.Core.Bool.{Bool, _&&_}
 use mathlib.Core.Path.{_≡_}
@@ -11,16 +11,21 @@ use Rattle.paging.specs.declared.Access.{Access}
 use Rattle.paging.specs.declared.Entry.{Entry}
 use Rattle.paging.specs.Buffer.{serves}
 use Rattle.paging.specs.Walk.{bit}
+use Rattle.paging.specs.Counting.{Counted, counted}
 use Rattle.buffer.specs.declared.Hit.{Hit}
 use Rattle.buffer.specs.declared.Hit.the-variants.{Frame, Miss}
 
 -- how many numbers the lent array has
 abbrev pub slots : ℕ
-slots = 65
+slots = 66
 
 -- how many entries are counted
 abbrev pub count : List ℕ → ℕ
 count l = getD l 64 0
+
+-- the table walks counted
+abbrev pub walks : List ℕ → ℕ
+walks l = getD l 65 0
 
 abbrev pub entry : ℕ → ℕ → Bool → Bool → Entry
 entry p f u w = record { page = p; frame = f; user = u; write = w }
@@ -48,6 +53,10 @@ unpack w = entry (pageIn w) (frameIn w) (bit 2 w) (bit 1 w)
 -- the counted entries, in order
 unfoldable pub entriesIn : List ℕ → List Entry
 entriesIn l = map unpack (take (count l) l)
+
+-- all that the array holds
+abbrev pub lent : List ℕ → Counted (List Entry)
+lent l = counted (entriesIn l) (walks l)
 
 -- where the entry of page p stands, or how many entries there are
 unfoldable pub indexOf : ℕ → List Entry → ℕ

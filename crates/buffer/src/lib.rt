@@ -1,10 +1,11 @@
-// Document 01, "Addresses": the page buffer, lent as one array of numbers.
+// Document 01, "Addresses", and document 02, item 6: the page buffer, lent as one array of numbers, with a counter of table walks.
 ghost use mathlib.Core.List.{[]};
 ghost use mathlib.Core.Path.{_≡_};
-ghost use Prim.Native.Nat.{_+_, _*_, _/_, _%_, _<_, _≤_};
+ghost use Prim.Native.Nat.{_+_, _*_, _/_, _%_, _^_, _<_, _≤_};
 ghost use lib.ListN.{length, set};
 ghost use Rattle.paging.specs.Buffer.{serves, keep};
-ghost use Rattle.buffer.specs.Held.{slots, frames, pageIn, entry, unpack, count, entriesIn, indexOf, slotHit, Buffer};
+ghost use Rattle.paging.specs.Counting.{counted};
+ghost use Rattle.buffer.specs.Held.{slots, frames, pageIn, entry, unpack, count, walks, entriesIn, lent, indexOf, slotHit, Buffer};
 use paging::Access;
 use paging::Entry;
 
@@ -50,12 +51,29 @@ pub fn count(tlb: &[u64]) -> usize
     tlb[64] as usize
 }
 
-// Counts the first n entries.
-pub fn recount(tlb: &mut [u64], n: usize)
+// Counts the first n entries, and walks from a number on.
+pub fn recount(tlb: &mut [u64], n: usize, walks: u64)
     requires { ⌜ (n ≤ 64) × (length (now tlb) ≡ slots) ⌝ }
-    ensures { λ _. ⌜ now (tlb .exit) ≡ set (now (tlb .entry)) 64 n ⌝ }
+    ensures { λ _. ⌜ now (tlb .exit) ≡ set (set (now (tlb .entry)) 64 n) 65 walks ⌝ }
 {
     tlb[64] = n as u64;
+    tlb[65] = walks;
+}
+
+// How many table walks are counted.
+pub fn walks(tlb: &[u64]) -> u64
+    requires { ⌜ Buffer (now tlb) ⌝ }
+    ensures { λ r. ⌜ r ≡ walks (now (tlb .entry)) ⌝ }
+{
+    tlb[65]
+}
+
+// Counts one table walk more.
+pub fn raise_walks(tlb: &mut [u64])
+    requires { ⌜ Buffer (now tlb) ⌝ }
+    ensures { λ _. ⌜ now (tlb .exit) ≡ set (now (tlb .entry)) 65 ((walks (now (tlb .entry)) + 1) % 2 ^ 64) ⌝ }
+{
+    tlb[65] = std::num::wrapping_add_u64(tlb[65], 1);
 }
 
 // Whether the entry of a number serves an access.
@@ -102,7 +120,7 @@ pub fn lookup(tlb: &[u64], page: u64) -> usize
 // Keeps an entry whose page was looked up at `i`: in the place of the same page's, or after the others, or alone where there is no more room.
 pub fn keep(tlb: &mut [u64], i: usize, e: u64)
     requires { ⌜ Buffer (now tlb) × (i ≡ indexOf (pageIn e) (entriesIn (now tlb))) ⌝ }
-    ensures { λ _. ⌜ (entriesIn (now (tlb .exit)) ≡ keep (unpack e) (entriesIn (now (tlb .entry)))) × Buffer (now (tlb .exit)) ⌝ }
+    ensures { λ _. ⌜ (lent (now (tlb .exit)) ≡ counted (keep (unpack e) (entriesIn (now (tlb .entry)))) (walks (now (tlb .entry)))) × Buffer (now (tlb .exit)) ⌝ }
 {
     let n = count(tlb);
     if i < n {
@@ -119,7 +137,7 @@ pub fn keep(tlb: &mut [u64], i: usize, e: u64)
 // Empties the buffer.
 pub fn empty(tlb: &mut [u64])
     requires { ⌜ Buffer (now tlb) ⌝ }
-    ensures { λ _. ⌜ (entriesIn (now (tlb .exit)) ≡ []) × Buffer (now (tlb .exit)) ⌝ }
+    ensures { λ _. ⌜ (lent (now (tlb .exit)) ≡ counted [] (walks (now (tlb .entry)))) × Buffer (now (tlb .exit)) ⌝ }
 {
     tlb[64] = 0;
 }

@@ -141,7 +141,7 @@ fn judge_runs(s: &[u8]) -> Judged {
     }
     let entries = word(s, 8);
     let at = machine_end(s);
-    if (entries == 0) | (7 < entries) | (at == 0) {
+    if (entries == 0) | (15 < entries) | (at == 0) {
         return Judged::Malformed;
     }
     judge_list(s, at, place(s, 36))

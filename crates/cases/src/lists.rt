@@ -22,7 +22,7 @@ fn run_shown(
 ) -> Machine {
     let r = make(m, keys, budget, entry, mem, con);
     let machine = r.machine;
-    let head = [run, r.number as u64, r.steps];
+    let head = [run, r.number as u64, r.steps, r.walks];
     show_line(no, &head, machine, mem, con);
     machine
 }
@@ -61,10 +61,10 @@ fn pass(s: &[u8], no: u64, entry: u32, mem: &mut [u8], con: &mut [u8])
     run_list(s, at, no, entry, mem, con);
 }
 
-// The entries 1, 2 and 4.
+// The entries 1, 2, 4 and 8.
 fn passes(s: &[u8], no: u64, mem: &mut [u8], con: &mut [u8]) {
     let mut entry = 1;
-    while entry < 5 {
+    while entry < 9 {
         pass(s, no, entry, mem, con);
         entry *= 2;
     }

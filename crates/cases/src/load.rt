@@ -9,7 +9,7 @@ fn load_shown(file: &[u8], value: u32, no: u64, mem: &mut [u8]) {
     let l = loader::load(file, mem);
     let answer = l.answer;
     let machine = l.machine;
-    let head = [0, executable::load_number(answer) as u64, 0];
+    let head = [0, executable::load_number(answer) as u64, 0, 0];
     show_line(no, &head, machine, mem, b"");
 }
 

@@ -9,7 +9,6 @@ use Rattle.paging.specs.declared.Access.{Access}
 use Rattle.paging.specs.declared.Access.the-variants.{Read}
 use Rattle.paging.specs.declared.Answer.{Answer}
 use Rattle.paging.specs.declared.Answer.the-variants.{At, Denied}
-use Rattle.paging.specs.declared.Entry.{Entry}
 use Rattle.paging.specs.declared.Fault.{Fault}
 use Rattle.paging.specs.declared.Space.{Space}
 use Rattle.paging.specs.Walk.{isWrite}
@@ -25,7 +24,7 @@ use Rattle.contracts.proofs.Trees.{asked, slots-first, slots-second, sl
 use Rattle.contracts.proofs.Laws.{fault-told}
 
 -- a tree's end, from the record k
-abbrev ending : Cpu → List ℕ → Ended (List Entry) Final → State Kept
+abbrev ending : Cpu → List ℕ → Ended Kept Final → State Kept
 ending k con e = finished translator (k .regs .count) (k .space) (k .written) con e
 
 -- ---- ends
@@ -47,7 +46,7 @@ module _ {k : Cpu} {m con l : List ℕ} {c x : Cpu} where
   finishes-ended p g = finishes-final p refl refl (rw p g)
 
   -- PDIR and SPAG
-  pub finishes-space : {t : Space} {l′ : List ℕ} → x ≡ recordAfter k (setSpace t) c → keptIn l′ ≡ [] → Good (length m) (t .pdir) l′
+  pub finishes-space : {t : Space} {l′ : List ℕ} → x ≡ recordAfter k (setSpace t) c → keptIn l′ ≡ translator .empty (keptIn l) → Good (length m) (t .pdir) l′
       → Finishes (final c [] (setSpace t)) k m con l x m con l′
   unfolding finished
   finishes-space p b g = finishes-final p refl b (rw p g)

@@ -4,7 +4,6 @@ use mathlib.Core.Path.{_≡_}
 use mathlib.Core.Bool.{Bool}
 use mathlib.Core.List.{List, []}
 use lib.ListN.{length}
-use Rattle.paging.specs.declared.Entry.{Entry}
 use Rattle.paging.specs.declared.Space.{Space}
 use Rattle.paging.specs.declared.Cause.the-variants.{AddressBeyondMemory}
 use Rattle.paging.specs.declared.Fault.{Fault}
@@ -54,14 +53,14 @@ outOf d = outBy (d .regs) (d .end)
 -- ---- an instruction
 
 -- a rule's answer, with the stores made
-unfoldable pub madeBy : Out → List Grant → List ℕ → List Entry → Result Out
+unfoldable pub madeBy : Out → List Grant → List ℕ → Kept → Result Out
 madeBy (fine r vs) gs m es = result (fine r []) (storeAll gs vs m) es
 madeBy (unfetched f) gs m es = result (unfetched f) m es
 madeBy (trap code) gs m es = result (trap code) m es
 madeBy (refused f) gs m es = result (refused f) m es
 madeBy (system op) gs m es = result (system op) m es
 
-abbrev pub made : Ended (List Entry) Out → Result Out
+abbrev pub made : Ended Kept Out → Result Out
 made e = madeBy (e .leaf) (e .grants) (e .mem) (e .buffer)
 
 -- with writes gs granted, from memory m and buffer l: the code answered d, with memory m′ and buffer l′, as the tree says

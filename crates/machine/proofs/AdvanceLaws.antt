@@ -4,7 +4,6 @@ use native.Mathlib.Omega.{arith}
 use mathlib.Core.List.{List}
 use mathlib.Core.Path.{_≡_, refl, sym, ap, _∙_, subst}
 use lib.ListN.{length}
-use Rattle.paging.specs.declared.Entry.{Entry}
 use Rattle.mmu.specs.Good.{Good}
 use Rattle.mmu.specs.Translates.{Kept, result, keptIn, translator}
 use Rattle.rules.specs.declared.Cpu.{Cpu}
@@ -25,7 +24,7 @@ use Rattle.machine.specs.Advance.{Ready, Advances}
 use Rattle.machine.proofs.QuietStep.{run-on}
 
 -- the step count after the rest of a step
-settled-count : (size : ℕ) (c : Cpu) (con m : List ℕ) (es : List Entry) (o : Out) → settled size c con (result o m es) .cpu .regs .count ≡ c .regs .count
+settled-count : (size : ℕ) (c : Cpu) (con m : List ℕ) (es : Kept) (o : Out) → settled size c con (result o m es) .cpu .regs .count ≡ c .regs .count
 unfolding settled
 settled-count size c con m es o = refl
 

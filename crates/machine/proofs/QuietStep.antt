@@ -5,7 +5,6 @@ use mathlib.Core.List.{List, [], _∷_}
 use mathlib.Core.Path.{_≡_, sym, ap, _∙_}
 use lib.ListN.{length}
 use Rattle.word.specs.Word.{if_then_else_}
-use Rattle.paging.specs.declared.Entry.{Entry}
 use Rattle.mmu.specs.Translates.{Kept, result, keptIn, translator}
 use Rattle.rules.specs.declared.Regs.{Regs}
 use Rattle.rules.specs.declared.Cpu.{Cpu}
@@ -36,7 +35,7 @@ pub run-on : (ks : List Key) (n n′ : ℕ) (s : State Kept) → n ≡ suc n′ 
 unfolding stepsOf lastOf
 run-on ks n n′ s e h = ap (λ (i : ℕ). lastOf s (stepsOf translator ks i s)) e ∙ ap (λ (x : Stop). lastOf s (if isRunning x then ts else [])) h
   where
-    ts : List (Stepped (List Entry))
+    ts : List (Stepped Kept)
     ts = step translator ks s ∷ stepsOf translator ks n′ (step translator ks s .state)
 
 module _ (k : Next) (c : Cpu) (limit : ℕ) (q : Quiet k c limit) (r : Regs) (later : c .regs .count ≤ r .count)

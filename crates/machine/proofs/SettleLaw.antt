@@ -2,7 +2,6 @@
 use Prim.Native.Nat.{ℕ}
 use mathlib.Core.List.{List, []}
 use mathlib.Core.Path.{_≡_, refl, ap, _∙_}
-use Rattle.paging.specs.declared.Entry.{Entry}
 use Rattle.mmu.specs.Translates.{Kept, Result, translator}
 use Rattle.rules.specs.declared.Cpu.{Cpu}
 use Rattle.rules.specs.Tree.{Tree, bind, Grant, storeAll, interpret}
@@ -19,7 +18,7 @@ module _ (size consoleSize : ℕ) (c : Cpu) (con : List ℕ) where
   abbrev rest : Result Out → State Kept
   rest d = run c con (settleTree size consoleSize c (d .answer)) (d .mem) (d .buffer) []
 
-  settle-by : (o : Out) (gs : List Grant) (m : List ℕ) (es : List Entry) → run c con (settleTree size consoleSize c o) m es gs ≡ rest (madeBy o gs m es)
+  settle-by : (o : Out) (gs : List Grant) (m : List ℕ) (es : Kept) → run c con (settleTree size consoleSize c o) m es gs ≡ rest (madeBy o gs m es)
   unfolding settleTree madeBy interpret finished storeAll
   settle-by (fine r vs) gs m es = refl
   settle-by (unfetched f) gs m es = every-fault (fresh-shapes c con size consoleSize) c f (c .regs .pc) tt .fresh m es gs
@@ -28,7 +27,7 @@ module _ (size consoleSize : ℕ) (c : Cpu) (con : List ℕ) where
   settle-by (system op) gs m es = every-system (fresh-shapes c con size consoleSize) op c tt .fresh m es gs
 
   -- an instruction's tree and the rest, from any memory and buffer
-  pub settle-law : (t : Tree Out) (m : List ℕ) (es : List Entry)
+  pub settle-law : (t : Tree Out) (m : List ℕ) (es : Kept)
       → run c con (bind t (settleTree size consoleSize c)) m es [] ≡ rest (made (interpret translator (c .space) (c .system .user) t m es []))
   unfolding finished
   settle-law t m es =

@@ -3,8 +3,7 @@ use Prim.Native.Nat.{ℕ}
 use mathlib.Core.List.{List, []}
 use mathlib.Core.Path.{_≡_, refl, ap}
 use lib.ListN.{length}
-use Rattle.paging.specs.declared.Entry.{Entry}
-use Rattle.mmu.specs.Translates.{result, translator}
+use Rattle.mmu.specs.Translates.{Kept, result, translator}
 use Rattle.rules.specs.declared.Regs.{Regs}
 use Rattle.rules.specs.declared.Cpu.{Cpu}
 use Rattle.rules.specs.Record.{withCount, withRegs}
@@ -19,14 +18,14 @@ use Rattle.machine.specs.Settled.{settled}
 use Rattle.machine.proofs.SettleLaw.{settle-law}
 
 -- an instruction's tree, and the rest of its step
-pub settled-law : (size : ℕ) (x : Cpu) (con : List ℕ) (t : Tree Out) (m : List ℕ) (es : List Entry)
+pub settled-law : (size : ℕ) (x : Cpu) (con : List ℕ) (t : Tree Out) (m : List ℕ) (es : Kept)
     → finished translator (x .regs .count) (x .space) (x .written) con (interpret translator (x .space) (x .system .user) (bind t (settleTree size (length con) x)) m es [])
     ≡ settled size x con (made (interpret translator (x .space) (x .system .user) t m es []))
 unfolding settled
 settled-law size x con t m es = settle-law size (length con) x con t m es
 
 -- the state after an instruction that ended well
-pub settled-ok : (size : ℕ) (x : Cpu) (con : List ℕ) (d : Done) (m : List ℕ) (es : List Entry) → d .end ≡ Ok
+pub settled-ok : (size : ℕ) (x : Cpu) (con : List ℕ) (d : Done) (m : List ℕ) (es : Kept) → d .end ≡ Ok
     → settled size x con (result (outOf d) m es) ≡ record { cpu = withRegs (withCount (x .regs .count) (d .regs)) x; mem = m; console = con; buffer = es }
 unfolding settled settleTree interpret finished storeAll
 settled-ok size x con d m es e =
@@ -35,7 +34,7 @@ settled-ok size x con d m es e =
     (interpret translator (x .space) (x .system .user) (settleTree size (length con) x (outBy (d .regs) y)) m es [])) e
 
 -- the step count is the record's
-pub settled-count : (size : ℕ) (x : Cpu) (con : List ℕ) (n : ℕ) (r : Regs) (m : List ℕ) (es : List Entry)
+pub settled-count : (size : ℕ) (x : Cpu) (con : List ℕ) (n : ℕ) (r : Regs) (m : List ℕ) (es : Kept)
     → settled size x con (result (fine (withCount n r) []) m es) ≡ settled size x con (result (fine r []) m es)
 unfolding settled settleTree interpret finished storeAll
 settled-count size x con n r m es = refl

@@ -3,7 +3,7 @@ use Prim.Native.Nat.{ℕ, _+_, _%_, _≤_, _<_}
 use mathlib.Core.Bool.{Bool, true}
 use native.Mathlib.Omega.{arith}
 use mathlib.Core.Path.{_≡_, sym, ap, _∙_, subst}
-use mathlib.Core.List.{List, []}
+use mathlib.Core.List.{List}
 use lib.ListN.{length}
 use Rattle.memory.specs.declared.Size.{Size}
 use Rattle.memory.specs.Memory.{bytes}
@@ -17,7 +17,7 @@ use Rattle.paging.proofs.BufferLaws.{empty-ok}
 use Rattle.paging.proofs.ValidBuffer.{Keeps, request-keeps}
 use Rattle.buffer.specs.Held.{entriesIn, Buffer}
 use Rattle.mmu.specs.Good.{Good}
-use Rattle.mmu.specs.Translates.{Result, result, seen, request, Translates}
+use Rattle.mmu.specs.Translates.{Kept, translator, keptIn, Result, result, seen, request, Translates}
 use Rattle.mmu.proofs.Rules.{Within, translate-within}
 
 -- ---- a translated access
@@ -29,11 +29,11 @@ module _ {s : Space} {m l : List ℕ} (g : Good (length m) (s .pdir) l) (q : Req
       request-keeps s q m (entriesIn l) (record { aligned = a; whole = g .directory .whole; ok = g .entries })
 
   -- what is equal to the rules' outcome is good
-  pub translated : {a : Answer} {m′ l′ : List ℕ} → result a m′ (entriesIn l′) ≡ seen (buffered .translate s q m (entriesIn l)) → Buffer l′
+  pub translated : {a : Answer} {m′ l′ : List ℕ} → result a m′ (keptIn l′) ≡ seen (translator .translate s q m (keptIn l)) → Buffer l′
       → Translates s q m l a m′ l′
   translated {a} {m′} {l′} e b =
       let z : length m′ ≡ length m = ap (λ (x : Result Answer). length (x .mem)) e ∙ keeps .size in
-      let o : bufferOk (length m′) (entriesIn l′) ≡ true = rw (ap (λ (x : Result Answer). x .mem) e, ap (λ (x : Result Answer). x .buffer) e) (keeps .valid .ok) in
+      let o : bufferOk (length m′) (entriesIn l′) ≡ true = rw (ap (λ (x : Result Answer). x .mem) e, ap (λ (x : Result Answer). x .buffer .held) e) (keeps .valid .ok) in
       record { same = e; good = record { directory = rw z (g .directory); buffer = b; entries = o } }
 
 pub length-kept : {s : Space} {q : Request} {m l : List ℕ} {a : Answer} {m′ l′ : List ℕ}
@@ -52,10 +52,10 @@ at-within n {s} {k} {addr} {user} {m} {l} {a} {m′} {l′} {p} g t e =
 -- ---- what stays good
 
 -- an emptied buffer, with this directory or another one
-pub good-emptied : {n pdir pdir′ : ℕ} {l l′ : List ℕ} → Good n pdir l → pdir′ % 4096 ≡ 0 → pdir′ < n → entriesIn l′ ≡ [] → Buffer l′ → Good n pdir′ l′
+pub good-emptied : {n pdir pdir′ : ℕ} {l l′ : List ℕ} → Good n pdir l → pdir′ % 4096 ≡ 0 → pdir′ < n → keptIn l′ ≡ translator .empty (keptIn l) → Buffer l′ → Good n pdir′ l′
 good-emptied {n} g z h e b =
     record {
       directory = record { whole = g .directory .whole; small = g .directory .small; aligned = z; below = h };
       buffer = b;
-      entries = rw e (empty-ok n);
+      entries = rw (ap (λ (k : Kept). k .held) e) (empty-ok n);
     }

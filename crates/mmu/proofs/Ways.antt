@@ -1,11 +1,11 @@
 -- What each way through the code of translation gives: one law a return.
-use Prim.Native.Nat.{ℕ, _+_, _*_, _/_, _%_, _≤_, _<_}
+use Prim.Native.Nat.{ℕ, _+_, _*_, _/_, _%_, _^_, _≤_, _<_}
 use native.Mathlib.Omega.{arith}
 use mathlib.Core.Bool.{Bool, true, false}
 use mathlib.Core.Option.{none, some}
 use mathlib.Core.Path.{_≡_, refl, sym, ap, _∙_}
-use mathlib.Core.List.{List}
-use lib.ListN.{length}
+use mathlib.Core.List.{List, _++_}
+use lib.ListN.{length, set}
 use borrow.Author.Tests.{lt-ltb, le-ltb}
 use Rattle.word.specs.Word.{cut}
 use Rattle.memory.specs.declared.Size.{Size}
@@ -19,18 +19,22 @@ use Rattle.paging.specs.declared.Space.{Space}
 use Rattle.paging.specs.declared.Answer.the-variants.{At}
 use Rattle.paging.specs.TrapCode.{FMEM}
 use Rattle.paging.specs.Walk.{Found, fault, found, walk}
-use Rattle.paging.specs.Buffer.{hit, keep, afterWalk}
+use Rattle.paging.specs.Buffer.{hit, keep, afterWalk, walkEvents}
 use Rattle.paging.specs.Translate.{Request, inFrame, denied, direct, answerOf, refilled, pagedBy, paged, translateBy}
+use Rattle.paging.specs.Counting.{counted, countedFrom, raised}
+use Rattle.paging.proofs.CountingLaws.{raised-one}
+use Rattle.paging.proofs.CountedWalk.{refill-walks}
 use Rattle.walk.specs.declared.PageWalk.{PageWalk}
 use Rattle.walk.specs.declared.PageWalk.the-variants.{Mapped, Faulted}
 use Rattle.walk.specs.Found.{WalkResult, walkResult, foundBy, walkedBy}
 use Rattle.walk.proofs.Bounds.{FrameIn, frame-in}
 use Rattle.buffer.specs.declared.Hit.{Hit}
 use Rattle.buffer.specs.declared.Hit.the-variants.{Frame, Miss}
-use Rattle.buffer.specs.Held.{pageIn, frames, entry, unpack, entriesIn, indexOf, slotHit, Buffer}
+use Rattle.buffer.specs.Held.{walks, pageIn, frames, entry, unpack, entriesIn, lent, indexOf, slotHit, Buffer}
+use Rattle.buffer.proofs.Slots.{held-raised, buffer-raised, walks-raised}
 use Rattle.buffer.proofs.Hits.{slot-frame, slot-miss}
 use Rattle.mmu.specs.Good.{Good}
-use Rattle.mmu.specs.Translates.{result, seen, Refills, Translates}
+use Rattle.mmu.specs.Translates.{Kept, result, seen, Refills, Translates}
 use Rattle.mmu.proofs.Laws.{translated}
 
 -- the page of a 32-bit address
@@ -71,33 +75,62 @@ frame-small m pdir page k user {l} {m′} {r} {f} g p e =
     let h : f < length m / 4096 = frame-found (length m) _ (ap (λ (x : WalkResult). x .answer) (sym p) ∙ e) i in
     omega (arith, g .directory .small)
 
--- an entry is kept where its page was looked up
-pub kept-at : (es : List Entry) (e : ℕ) {i p f : ℕ} {u w : Bool} → unpack e ≡ entry p f u w → i ≡ indexOf p es → i ≡ indexOf (pageIn e) es
-kept-at es e {i} {p} k h = let s : pageIn e ≡ p = ap (λ (x : Entry). x .page) k in rw s h
+-- the lent buffer with one walk more
+abbrev pub raisedIn : List ℕ → List ℕ
+raisedIn l = set l 65 ((walks l + 1) % 2 ^ 64)
+
+module _ (l : List ℕ) {l₁ : List ℕ} (b : Buffer l) (c : l₁ ≡ raisedIn l) where
+  -- the walk is counted first: what is held stays
+  counted-walk : lent l₁ ≡ counted (entriesIn l) ((walks l + 1) % 2 ^ 64)
+  counted-walk = rw (c, held-raised l b ((walks l + 1) % 2 ^ 64), walks-raised l b ((walks l + 1) % 2 ^ 64))
+
+  pub counted-buffer : Buffer l₁
+  counted-buffer = rw c (buffer-raised l b ((walks l + 1) % 2 ^ 64))
+
+  held-still : entriesIn l₁ ≡ entriesIn l
+  held-still = ap (λ (k : Kept). k .held) counted-walk
+
+  -- an entry is kept where its page was looked up
+  pub kept-at : (e : ℕ) {i p f : ℕ} {u w : Bool} → unpack e ≡ entry p f u w → i ≡ indexOf p (entriesIn l) → i ≡ indexOf (pageIn e) (entriesIn l₁)
+  kept-at e {i} {p} k h =
+      let s : pageIn e ≡ p = ap (λ (x : Entry). x .page) k in
+      rw (s, held-still) h
 
 module _ (pdir : ℕ) (q : Request) (m l : List ℕ) (g : Good (length m) pdir l) (small : q .addr < 4294967296)
     {r : PageWalk} {m′ : List ℕ} (p : walkResult r m′ ≡ walkedBy (walk m pdir (q .addr / 4096) (q .kind) (q .user))) where
-  refill-by : result (answerFor q r) m′ (keptFor (q .addr / 4096) (entriesIn l) r) ≡ seen (pagedBy none pdir q m (entriesIn l))
+  refill-by : result (answerFor q r) m′ (counted (keptFor (q .addr / 4096) (entriesIn l) r) ((walks l + 1) % 2 ^ 64))
+      ≡ seen (countedFrom (walks l) (pagedBy none pdir q m (entriesIn l)))
   unfolding pagedBy refilled walkedBy
   refill-by =
       let w = walk m pdir (q .addr / 4096) (q .kind) (q .user) in
       let f : r ≡ foundBy (w .found) = ap (λ (x : WalkResult). x .answer) p in
       let e : m′ ≡ w .mem = ap (λ (x : WalkResult). x .mem) p in
-      rw (page-is (q .addr) small, f, e, answer-found q (w .found), kept-found (q .addr / 4096) (entriesIn l) (w .found))
+      rw (
+        page-is (q .addr) small,
+        f,
+        e,
+        answer-found q (w .found),
+        kept-found (q .addr / 4096) (entriesIn l) (w .found),
+        raised-one (walks l) (w .events ++ walkEvents (q .addr / 4096) (entriesIn l) (w .found)) (refill-walks m pdir (q .addr / 4096) (q .kind) (q .user) (entriesIn l)),
+      )
 
-  pub refill-mapped : (e : ℕ) {f : ℕ} {u w : Bool} {at : ℕ} {l′ : List ℕ} → r ≡ Mapped f u w → unpack e ≡ entry (q .addr / 4096) f u w
-      → (entriesIn l′ ≡ keep (unpack e) (entriesIn l)) × Buffer l′ → at ≡ f * 4096 + cut (q .size) (q .addr) % 4096 → Refills pdir q m l (At at) m′ l′
-  refill-mapped e d k h a = record { same = rw (h .0, k, a) (rw d at refill-by); buffer = h .1 }
+  module _ {l₁ : List ℕ} (c : l₁ ≡ raisedIn l) where
+    pub refill-mapped : (e : ℕ) {f : ℕ} {u w : Bool} {at : ℕ} {l′ : List ℕ} → r ≡ Mapped f u w → unpack e ≡ entry (q .addr / 4096) f u w
+        → (lent l′ ≡ counted (keep (unpack e) (entriesIn l₁)) (walks l₁)) × Buffer l′ → at ≡ f * 4096 + cut (q .size) (q .addr) % 4096
+        → Refills pdir q m l (At at) m′ l′
+    refill-mapped e d k h a =
+        let n : walks l₁ ≡ (walks l + 1) % 2 ^ 64 = ap (λ (x : Kept). x .walks) (counted-walk l (g .buffer) c) in
+        record { same = rw (h .0, held-still l (g .buffer) c, n, k, a) (rw d at refill-by); buffer = h .1 }
 
-  pub refill-faulted : {code : ℕ} {cause : Cause} {a : Answer} → r ≡ Faulted code cause → a ≡ denied code cause q → Refills pdir q m l a m′ l
-  refill-faulted e d = record { same = rw d (rw e at refill-by); buffer = g .buffer }
+    pub refill-faulted : {code : ℕ} {cause : Cause} {a : Answer} → r ≡ Faulted code cause → a ≡ denied code cause q → Refills pdir q m l a m′ l₁
+    refill-faulted e d = record { same = rw (counted-walk l (g .buffer) c, d) (rw e at refill-by); buffer = counted-buffer l (g .buffer) c }
 
 -- ---- a hit, and a miss
 
 module _ (s : Space) (q : Request) (m l : List ℕ) (g : Good (length m) (s .pdir) l) where
   module _ (small : q .addr < 4294967296) (on : s .paging ≡ true) (i : ℕ) {h : Hit} (p : h ≡ slotHit l i (q .addr / 4096) (q .kind) (q .user)) where
     pub translate-hit : {f at : ℕ} → h ≡ Frame f → at ≡ f * 4096 + cut (q .size) (q .addr) % 4096 → Translates s q m l (At at) m l
-    unfolding translateBy paged pagedBy
+    unfolding translateBy paged pagedBy raised
     translate-hit {f} e a =
         let z : hit (q .addr / 4096) (q .kind) (q .user) (entriesIn l) ≡ some f =
         slot-frame l i (q .addr / 4096) (q .kind) (q .user) (length m) (g .buffer) (g .entries) (sym p ∙ e) in
@@ -114,11 +147,11 @@ module _ (s : Space) (q : Request) (m l : List ℕ) (g : Good (length m) (s .pdi
   -- ---- paging off
 
   pub translate-at : {at : ℕ} → s .paging ≡ false → q .addr < length m → at ≡ cut (q .size) (q .addr) → Translates s q m l (At at) m l
-  unfolding translateBy direct
+  unfolding translateBy direct raised
   translate-at off h e = record { same = rw (off, lt-ltb _ _ h, e); good = g }
 
   pub translate-beyond : {a : Answer} → s .paging ≡ false → length m ≤ q .addr → a ≡ denied FMEM AddressBeyondMemory q → Translates s q m l a m l
-  unfolding translateBy direct
+  unfolding translateBy direct raised
   translate-beyond off h d = record { same = rw (off, le-ltb _ _ h, d); good = g }
 
 -- ---- an answer, and an aligned address

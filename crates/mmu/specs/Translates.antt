@@ -1,4 +1,4 @@
--- Document 01, "Addresses": what translation gives back, against the rules' outcome.
+-- Document 01, "Addresses", and document 02, item 6: what translation gives back, against the rules' outcome, its walks counted.
 use Prim.Native.Nat.{ℕ}
 use mathlib.Core.Bool.{Bool}
 use mathlib.Core.Path.{_≡_}
@@ -12,7 +12,8 @@ use Rattle.paging.specs.declared.Entry.{Entry}
 use Rattle.paging.specs.declared.Space.{Space}
 use Rattle.paging.specs.declared.Answer.{Answer}
 use Rattle.paging.specs.Translate.{Request, Outcome, pagedBy, buffered, Translator}
-use Rattle.buffer.specs.Held.{entriesIn, Buffer}
+use Rattle.paging.specs.Counting.{Counted, countedFrom, counting}
+use Rattle.buffer.specs.Held.{walks, entriesIn, lent, Buffer}
 use Rattle.mmu.specs.Good.{Good}
 
 -- an access
@@ -22,13 +23,13 @@ request kind s a u = record { kind = kind; size = bytes s; addr = a; user = u }
 -- what the translator of the code holds, the translator itself, and what the lent array holds: the contracts from here up name these alone, so that what is
 -- held can grow in one place
 abbrev pub Kept : Type 0
-Kept = List Entry
+Kept = Counted (List Entry)
 
 abbrev pub translator : Translator Kept
-translator = buffered
+translator = counting buffered
 
 abbrev pub keptIn : List ℕ → Kept
-keptIn l = entriesIn l
+keptIn l = lent l
 
 -- an answer with memory and what is held
 pub record Result (A : Type 0) : Type 0 where
@@ -54,5 +55,5 @@ pub record Translates (s : Space) (q : Request) (m l : List ℕ) (a : Answer) (m
 
 -- an access that no entry serves is translated as the rules say: by a walk
 pub record Refills (pdir : ℕ) (q : Request) (m l : List ℕ) (a : Answer) (m′ l′ : List ℕ) : Type 0 where
-  pub same : result a m′ (entriesIn l′) ≡ seen (pagedBy none pdir q m (entriesIn l))
+  pub same : result a m′ (keptIn l′) ≡ seen (countedFrom (walks l) (pagedBy none pdir q m (entriesIn l)))
   pub buffer : Buffer l′

@@ -46,7 +46,7 @@ fn denied(code: u16, cause: Cause, addr: u32) -> Answer
     })
 }
 
-// A page table walk, whose entry is kept: its page was looked up at `i`.
+// A page table walk, which is counted, and whose entry is kept: its page was looked up at `i`.
 fn refill(
     mem: &mut [u8],
     tlb: &mut [u64],
@@ -60,6 +60,7 @@ fn refill(
     requires { ⌜ Good (length (now mem)) pdir (now tlb) × (i ≡ indexOf (addr / 4096) (entriesIn (now tlb))) ⌝ }
     ensures { λ r. ⌜ Refills pdir (request kind size addr user) (now (mem .entry)) (now (tlb .entry)) r (now (mem .exit)) (now (tlb .exit)) ⌝ }
 {
+    buffer::raise_walks(tlb);
     let page = addr / 4096;
     let found = walk::walk(mem, pdir, page, kind, user);
     match found {

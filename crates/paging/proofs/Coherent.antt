@@ -1,5 +1,5 @@
--- Document 01, "Addresses" and "The table reader": the page buffer is coherent with the page tables. Each entry gives its page's frame,
--- and at most the rights that the two words give. Marks keep this, and so does a store that touches no word of an entry held.
+-- Document 01, "Addresses" and "The table reader": the page buffer is coherent with the page tables. Each entry gives its page's frame and
+-- user right, and at most the write right that the two words give. Marks keep this, and so does a store that touches no word of an entry held.
 use Prim.Native.Nat.{ℕ, _+_, _/_, _%_, _≤_}
 use mathlib.Core.Path.{_≡_, refl, sym, _∙_}
 use mathlib.Core.Logic.{_⊎_, inl, inr}
@@ -17,12 +17,12 @@ use Rattle.paging.specs.Event.{Words}
 use Rattle.paging.specs.Walk.{present, writable, forUser, accessed, dirty, dirAt, tabAt}
 use Rattle.paging.specs.Held.{touches, touchesHeld}
 use Rattle.word.proofs.BoolLaws.{neither}
-use Rattle.paging.proofs.TableWord.{is-P, is-W, is-U, is-A, is-D, MarkedWord, flag-kept, MarkedMemory}
+use Rattle.paging.proofs.TableWord.{is-P, is-W, is-U, is-A, is-D, MarkedWord, flag-kept, user-was, MarkedMemory}
 
 -- ---- the invariant
 
--- a directory word and a table word give the entry's frame and at least its rights. D may be set in the table word without the entry
--- having write right: a write through another page may have set it.
+-- a directory word and a table word give the entry's frame, its user right, and at least its write right: D may be set in the table word
+-- without the entry having it, as a write through another page may have set D.
 pub record Maps (dw tw size : ℕ) (e : Entry) : Type 0 where
   pub dir-present : present dw ≡ true
   pub dir-accessed : accessed dw ≡ true
@@ -32,6 +32,7 @@ pub record Maps (dw tw size : ℕ) (e : Entry) : Type 0 where
   pub tab-inside : ltb (cut 4096 tw) size ≡ true
   pub frame-is : tw / 4096 ≡ e .frame
   pub user-right : e .user ≡ true → (forUser dw ≡ true) × (forUser tw ≡ true)
+  pub user-exact : forUser dw ≡ true → forUser tw ≡ true → e .user ≡ true
   pub write-right : e .write ≡ true → (writable dw ≡ true) × (writable tw ≡ true) × (dirty tw ≡ true)
 
 -- an entry, with the addresses of its words
@@ -78,6 +79,7 @@ maps-marked g h c = record {
   user-right = λ u.
       let r = c .user-right u in
       (flag-kept is-U g (r .0), flag-kept is-U h (r .1));
+  user-exact = λ d t. c .user-exact (user-was g d) (user-was h t);
   write-right = λ u.
       let r = c .write-right u in
       (flag-kept is-W g (r .0), flag-kept is-W h (r .1), flag-kept is-D h (r .2));

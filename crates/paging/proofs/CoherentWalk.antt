@@ -13,7 +13,7 @@ use Rattle.paging.specs.Event.{Event, walked}
 use Rattle.paging.specs.Walk.{present, writable, forUser, accessed, dirty, mark, markFor, markEvents, dirAt, tabAt, userOk, writeOk, allows}
 use Rattle.paging.specs.Walk.{Found, fault, found, Walked, walkFrame, walkTable, walkBelow, walkDir, walk}
 use Rattle.word.proofs.BoolLaws.{both}
-use Rattle.paging.proofs.TableWord.{is-P, is-W, is-U, is-A, mark-A, mark-D, flag-kept, MarkedMemory, unmarked, marked-twice, mark-marks, mark-sets}
+use Rattle.paging.proofs.TableWord.{is-P, is-W, is-U, is-A, mark-A, mark-D, flag-kept, user-was, MarkedMemory, unmarked, marked-twice, mark-marks, mark-sets}
 use Rattle.paging.proofs.Coherent.{CoherentEntry, dir-aligned, tab-aligned, tab-kept}
 use Rattle.paging.proofs.EventLaws.{WalkOnly, no-events, walk-began, walk-both, marks-only}
 
@@ -119,6 +119,7 @@ module _ (m : List ℕ) (pdir page : ℕ) (k : Access) (user : Bool) (al : pdir 
             user-right = λ u.
                 let r = both (forUser dw) (forUser tw) u in
                 (flag-kept is-U gd (r .0), flag-kept is-U gt (r .1));
+            user-exact = λ d t. rw (user-was gd d, user-was gt t);
             write-right = λ u.
                 let r = both (writable dw && writable tw) (dirty (loadN 4 m2 ta)) u in
                 let s = both (writable dw) (writable tw) (r .0) in

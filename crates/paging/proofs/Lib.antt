@@ -2,6 +2,7 @@ pub mod AllowedStores
 pub mod TableWord
 pub mod Coherent
 pub mod ServedRequest
+pub mod SecondWalk
 pub mod EventLaws
 pub mod CoherentWalk
 pub mod BufferLaws
@@ -9,3 +10,5 @@ pub mod ValidBuffer
 pub mod RequestAgrees
 pub mod Permitted
 pub mod Causes
+pub mod CountingLaws
+pub mod CountedWalk

@@ -60,6 +60,10 @@ flag-kept {w = w} {v = v} is-U g e = one-bit 4 v (omega (arith, bit-one 4 w e))
 flag-kept {w = w} {v = v} is-A g e = one-bit 32 v (omega (arith, bit-one 32 w e))
 flag-kept {w = w} {v = v} is-D g e = one-bit 64 v (omega (arith, bit-one 64 w e))
 
+-- nor is U gained
+pub user-was : {w v : ℕ} → MarkedWord w v → bit 4 v ≡ true → bit 4 w ≡ true
+user-was {w} {v} g e = one-bit 4 w (omega (arith, bit-one 4 v e))
+
 -- a mark in the low byte b of a word, the rest of which is r
 low-marked : {k : ℕ} → Mark k → (b r : ℕ) → MarkedWord (b + 256 * r) (setBit k b + 256 * r)
 unfolding setBit

@@ -5,3 +5,4 @@ pub mod Buffer
 pub mod Translate
 pub mod Cause
 pub mod Held
+pub mod Counting

@@ -2,6 +2,7 @@ pub mod RecordNumbers
 pub mod Leaves
 pub mod LowBits
 pub mod TreeInvariant
+pub mod RunInvariant
 pub mod StepTree
 pub mod StepSpace
 pub mod Kept
@@ -18,3 +19,4 @@ mod InterruptFrame
 pub mod StepCount
 pub mod StepsInParts
 pub mod NoSteps
+pub mod CountedSteps

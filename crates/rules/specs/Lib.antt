@@ -15,3 +15,4 @@ pub mod Run
 pub mod Pending
 pub mod LastFault
 pub mod Load
+pub mod Walks

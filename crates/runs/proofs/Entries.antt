@@ -10,7 +10,8 @@ use borrow.Author.Tests.{leb-true}
 use Rattle.paging.specs.declared.Entry.{Entry}
 use Rattle.paging.specs.Buffer.{bufferOk}
 use Rattle.word.proofs.BoolLaws.{both}
-use Rattle.buffer.specs.Held.{count, unpack, Buffer}
+use Rattle.paging.specs.Counting.{counted}
+use Rattle.buffer.specs.Held.{count, unpack, entriesIn, Buffer}
 use Rattle.mmu.specs.Translates.{keptIn}
 use Rattle.buffer.proofs.Slots.{length-held}
 use Rattle.buffer.proofs.Packed.{packed-all, unpacked-next, unpacked-all}
@@ -30,11 +31,11 @@ module _ (size n : ℕ) (es : List Entry) (z : length es ≡ 64) (h : bufferOk s
   held-passes = ap (bufferOk size) held-first ∙ h
 
   -- all of them are in the lent array, and counted
-  pub all-packed : (l : List ℕ) (i : ℕ) {l′ : List ℕ} → l′ ≡ set l 64 n → length l ≡ 65 → i ≤ n → n ≤ i → map unpack (take i l) ≡ take i es
-      → (keptIn l′ ≡ firstSlots n es) × Buffer l′
-  all-packed l i e y p q inv =
-      let r = packed-all n es z held-few l i y p q inv in
-      (ap keptIn e ∙ r .0 ∙ held-first, subst Buffer (sym e) (r .1))
+  pub all-packed : (l : List ℕ) (i w : ℕ) {l′ : List ℕ} → l′ ≡ set (set l 64 n) 65 w → length l ≡ 66 → i ≤ n → n ≤ i → map unpack (take i l) ≡ take i es
+      → (keptIn l′ ≡ counted (firstSlots n es) w) × Buffer l′
+  all-packed l i w e y p q inv =
+      let r = packed-all n es z held-few l i w y p q inv in
+      (ap keptIn e ∙ r .0 ∙ ap (λ (xs : List Entry). counted xs w) held-first, subst Buffer (sym e) (r .1))
 
 -- as many slots as are counted are there
 slots-there : (n : ℕ) (es : List Entry) → length (take n es) ≡ n → n ≤ length es
@@ -42,7 +43,7 @@ slots-there zero es e = omega arith
 slots-there (suc n) [] e = omega (arith, e)
 slots-there (suc n) (x ∷ es) e = let h = slots-there n es (omega (arith, e)) in omega (arith, h)
 
-pub unpacked-first : (l : List ℕ) (es : List Entry) → Buffer l → take (count l) es ≡ keptIn l → firstSlots (count l) es ≡ keptIn l
+pub unpacked-first : (l : List ℕ) (es : List Entry) → Buffer l → take (count l) es ≡ entriesIn l → firstSlots (count l) es ≡ entriesIn l
 unpacked-first l es b e = first-take (count l) es (slots-there (count l) es (ap length e ∙ length-held l b)) ∙ e
 
 -- out of the lent array, of which n entries are counted: a turn, and the last
@@ -50,5 +51,5 @@ module _ {l : List ℕ} (b : Buffer l) {n : ℕ} (c : n ≡ count l) (es : List 
   pub unpacked-turn : {e : Entry} → length es ≡ 64 → j < n → e ≡ unpack (getD l j 0) → take (j + 1) (set es j e) ≡ map unpack (take (j + 1) l)
   unpacked-turn z h q = unpacked-next l es j z (omega (arith, h, c, b .few)) (omega (arith, h, c, b .few, b .size)) inv q
 
-  pub unpacked-last : j ≤ n → n ≤ j → take (count l) es ≡ keptIn l
+  pub unpacked-last : j ≤ n → n ≤ j → take (count l) es ≡ entriesIn l
   unpacked-last h k = unpacked-all l es j (omega (arith, h, c)) (omega (arith, k, c)) inv

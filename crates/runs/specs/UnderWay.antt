@@ -14,6 +14,7 @@ use Rattle.rules.specs.declared.Stop.the-variants.{Running}
 use Rattle.rules.specs.Clock.{nextOf}
 use Rattle.rules.specs.Step.{State}
 use Rattle.rules.specs.Run.{allowance}
+use Rattle.rules.specs.Walks.{countedState}
 use Rattle.refusals.specs.View.{entriesOf, viewOf}
 use Rattle.refusals.specs.Refusal.{refusalOf}
 use Rattle.runs.specs.declared.UnderWay.{UnderWay}
@@ -25,11 +26,11 @@ unfoldable pub beginOf : Machine → (size consoleSize : ℕ) (rising : Bool) (k
 unfolding leftOf
 beginOf m size consoleSize rising keys budget =
     let a = refusalOf m size consoleSize rising keys budget in
-    record { taken = m .cpu .clock .taken; left = leftOf (m .cpu .stop) (allowance a budget); ran = record { machine = m; answer = a; steps = 0 } }
+    record { taken = m .cpu .clock .taken; left = leftOf (m .cpu .stop) (allowance a budget); ran = record { machine = m; answer = a; steps = 0; walks = 0 } }
 
--- where a run under way ends, from memory and console as they are
+-- where a run under way ends, from memory and console as they are, its walks counted on
 abbrev pub outcome : List Key → UnderWay → List ℕ → List ℕ → State Kept
-outcome ks g mem con = endOf ks (g .left) (viewOf (g .ran .machine) mem con)
+outcome ks g mem con = endOf ks (g .left) (countedState (g .ran .walks) (viewOf (g .ran .machine) mem con))
 
 -- a run that goes on, in memory of `size` bytes
 pub record Able (g : UnderWay) (size : ℕ) : Type 0 where

@@ -13,11 +13,12 @@ use rules::Next;
 use rules::RunAnswer;
 use rules::Stop;
 
-// What a run gives: the record, its answer, and the reported steps.
+// What a run gives: the record, its answer, the reported steps, and its table walks (document 02, item 6).
 pub struct RunResult {
     pub machine: Machine,
     pub answer: RunAnswer,
     pub steps: u64,
+    pub walks: u64,
 }
 
 // A run under way: the keys taken, the steps that are left, 0 once the machine has stopped, and its result so far.
@@ -67,6 +68,7 @@ pub fn begin(
         machine: m,
         answer,
         steps: 0,
+        walks: 0,
     };
     UnderWay { taken, left, ran }
 }
@@ -101,7 +103,7 @@ pub fn proceed(g: UnderWay, mem: &mut [u8], console: &mut [u8], next: Next) -> U
     requires { ⌜ Able g (length (now mem)) × KeyFits (next .some) (g .taken) ⌝ }
     ensures { λ r. ⌜ Proceeds g next (now (mem .entry)) (now (console .entry)) r (now (mem .exit)) (now (console .exit)) ⌝ }
 {
-    let mut tlb = [0u64; 65];
+    let mut tlb = [0u64; 66];
     let mut hint = [0u8; 256];
     let r = g.ran;
     let mut n = r.machine;
@@ -114,7 +116,7 @@ pub fn proceed(g: UnderWay, mem: &mut [u8], console: &mut [u8], next: Next) -> U
         hint[(e.page % 256) as usize] = i as u8;
         i += 1;
     }
-    buffer::recount(&mut tlb, held);
+    buffer::recount(&mut tlb, held, r.walks);
     let a = go(c, g.left, next, mem, console, &mut tlb, &mut hint);
     let x = a.cpu;
     let steps = r.steps + (x.regs.count - c.regs.count);
@@ -127,10 +129,12 @@ pub fn proceed(g: UnderWay, mem: &mut [u8], console: &mut [u8], next: Next) -> U
         j += 1;
     }
     let answer = r.answer;
+    let walks = buffer::walks(&tlb);
     let ran = RunResult {
         machine: n,
         answer,
         steps,
+        walks,
     };
     UnderWay {
         taken: x.clock.taken,

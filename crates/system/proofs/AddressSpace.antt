@@ -10,9 +10,10 @@ use borrow.Author.Tests.{lt-ltb, le-ltb}
 use Rattle.word.specs.Word.{cut}
 use Rattle.paging.specs.declared.Cause.the-variants.{AddressBeyondMemory}
 use Rattle.paging.specs.TrapCode.{FMEM}
-use Rattle.buffer.specs.Held.{Buffer}
+use Rattle.paging.specs.Counting.{raised, counted}
+use Rattle.buffer.specs.Held.{walks, lent, Buffer}
 use Rattle.mmu.specs.Good.{Good}
-use Rattle.mmu.specs.Translates.{spaceOf, keptIn}
+use Rattle.mmu.specs.Translates.{spaceOf}
 use Rattle.mmu.proofs.Laws.{good-emptied}
 use Rattle.rules.specs.declared.Cpu.{Cpu}
 use Rattle.rules.specs.Record.{withSpace}
@@ -26,10 +27,10 @@ use Rattle.system.proofs.Choices.{finishes-then, finishes-else, at-next
 
 module _ (c : Cpu) {m con l : List ℕ} where
   -- "PDIR: .. low twelve bits drop"
-  pub pdir-set : {n x : Cpu} {l′ : List ℕ} → keptIn l′ ≡ [] → Buffer l′ → Good (length m) (c .space .pdir) l → c .regs .a < length m → n ≡ movedOn c
+  pub pdir-set : {n x : Cpu} {l′ : List ℕ} → lent l′ ≡ counted [] (walks l) → Buffer l′ → Good (length m) (c .space .pdir) l → c .regs .a < length m → n ≡ movedOn c
       → x ≡ withSpace (spaceOf (c .space .paging) (cut 4096 (c .regs .a))) n
       → Finishes (pdirTree (length m) c (movedOn c)) c m con l x m con l′
-  unfolding pdirTree spaceAfter
+  unfolding pdirTree spaceAfter raised
   pdir-set z b g h e f =
       let i : cut 4096 (c .regs .a) % 4096 ≡ 0 = omega arith in
       let j : cut 4096 (c .regs .a) < length m = omega (arith, h) in
@@ -43,8 +44,8 @@ module _ (c : Cpu) {m con l : List ℕ} where
   pdir-fault h p f = finishes-else _ _ (le-ltb _ _ h) (at-next (faultTree c (record { code = FMEM; cause = AddressBeyondMemory; address = c .regs .a })) c p f)
 
 -- "SPAG: paging = (a ≠ 0)"
-pub spag-set : (n : Cpu) {m con l : List ℕ} {x : Cpu} {l′ : List ℕ} → keptIn l′ ≡ [] → Buffer l′ → Good (length m) (n .space .pdir) l
+pub spag-set : (n : Cpu) {m con l : List ℕ} {x : Cpu} {l′ : List ℕ} → lent l′ ≡ counted [] (walks l) → Buffer l′ → Good (length m) (n .space .pdir) l
     → x ≡ withSpace (spaceOf (not (eqb (n .regs .a) 0)) (n .space .pdir)) n
     → Finishes (spagTree n) n m con l x m con l′
-unfolding spaceAfter
+unfolding spaceAfter raised
 spag-set n z b g f = finishes-space f z (good-emptied g (g .directory .aligned) (g .directory .below) z b)

@@ -7,7 +7,6 @@ use Rattle.memory.specs.Memory.{loadN}
 use Rattle.paging.specs.declared.Access.the-variants.{Read}
 use Rattle.paging.specs.declared.Answer.{Answer}
 use Rattle.paging.specs.declared.Answer.the-variants.{At, Denied}
-use Rattle.paging.specs.declared.Entry.{Entry}
 use Rattle.paging.specs.Walk.{isWrite}
 use Rattle.paging.specs.Event.{Event}
 use Rattle.paging.specs.Translate.{Outcome}
@@ -24,16 +23,16 @@ use Rattle.contracts.proofs.Laws.{store-none}
 
 module _ (k : Cpu) (con : List ℕ) where
   -- where a tree's end leaves the machine
-  abbrev pub ends : Ended (List Entry) Final → State Kept
+  abbrev pub ends : Ended Kept Final → State Kept
   ends e = finished translator (k .regs .count) (k .space) (k .written) con e
 
   -- where a tree leaves it, from memory m and the entries es, with writes granted before
-  abbrev pub run : Tree Final → List ℕ → List Entry → List Grant → State Kept
+  abbrev pub run : Tree Final → List ℕ → Kept → List Grant → State Kept
   run t m es gs = ends (interpret translator (k .space) (k .system .user) t m es gs)
 
   -- the writes granted before the tree do not count
   pub record Fresh (t : Tree Final) : Type 0 where
-    pub fresh : (m : List ℕ) (es : List Entry) (gs : List Grant) → run t m es gs ≡ run t m es []
+    pub fresh : (m : List ℕ) (es : Kept) (gs : List Grant) → run t m es gs ≡ run t m es []
 
   -- a leaf without values
   fresh-final : (c : Cpu) (e : Effect) → Fresh (final c [] e)
@@ -42,7 +41,7 @@ module _ (k : Cpu) (con : List ℕ) where
 
   -- ---- a read grants no write
   module _ (n va : ℕ) (f : Reply → Tree Final) (h : (r : Reply) → Fresh (f r)) where
-    read-reply : (a : Answer) (m : List ℕ) (es : List Entry) (gs : List Grant)
+    read-reply : (a : Answer) (m : List ℕ) (es : Kept) (gs : List Grant)
         → run (f (replyTo Read n m a .reply)) m es (replyTo Read n m a .grants ++ gs) ≡ run (f (replyTo Read n m a .reply)) m es (replyTo Read n m a .grants ++ [])
     unfolding replyTo isWrite
     read-reply (At p) m es gs = h (got (loadN n m p)) .fresh m es gs
@@ -58,16 +57,16 @@ module _ (k : Cpu) (con : List ℕ) where
 
   -- ---- a trap frame is stored through the writes of its own two slots
   module _ (c : Cpu) (left : Pending) (code pc : ℕ) where
-    abbrev framing : Outcome (List Entry) Replied → List Grant → State Kept
+    abbrev framing : Outcome Kept Replied → List Grant → State Kept
     framing o gs = run (framed c left code pc (o .answer .reply)) (o .mem) (o .buffer) (o .answer .grants ++ gs)
 
-    second-slot : (p : ℕ) (ev : List Event) (o : Outcome (List Entry) Answer) (a : Answer) (gs : List Grant)
+    second-slot : (p : ℕ) (ev : List Event) (o : Outcome Kept Answer) (a : Answer) (gs : List Grant)
         → framing (secondSlot translator p ev o a) gs ≡ framing (secondSlot translator p ev o a) []
     unfolding secondSlot interpret finished storeAll
     second-slot p ev o (At q) gs = rw (store-none gs)
     second-slot p ev o (Denied f) gs = fresh-final (withStop NoFrame c) none .fresh (o .mem) (o .buffer) gs
 
-    first-slot : (va : ℕ) (o : Outcome (List Entry) Answer) (a : Answer) (gs : List Grant)
+    first-slot : (va : ℕ) (o : Outcome Kept Answer) (a : Answer) (gs : List Grant)
         → framing (firstSlot translator (k .space) va o a) gs ≡ framing (firstSlot translator (k .space) va o a) []
     unfolding firstSlot
     first-slot va o (At p) gs =

@@ -1,18 +1,22 @@
 -- Document 01, "Numbers returned": "A refused run returns the record given and zero steps; memory and console keep their bytes", of each entry, by its
--- contract; and "accepted with zero steps and no change".
+-- contract; and "accepted with zero steps and no change". Document 02, item 6: without a step no walk is reported.
 use Prim.Native.Nat.{ℕ}
-use mathlib.Core.Path.{_≡_, refl, _∙_, ap}
+use mathlib.Core.Path.{_≡_, refl, sym, _∙_, ap}
 use mathlib.Core.Bool.{false}
-use mathlib.Core.List.{List}
+use mathlib.Core.List.{List, [], _∷_}
+use native.Mathlib.Omega.{arith}
+use lib.ListN.{length}
 use Rattle.paging.specs.declared.Entry.{Entry}
 use Rattle.paging.specs.Translate.{buffered}
+use Rattle.paging.specs.Counting.{walksIn}
 use Rattle.rules.specs.declared.Key.{Key}
 use Rattle.rules.specs.declared.Machine.{Machine}
 use Rattle.rules.specs.declared.RunAnswer.{RunAnswer}
 use Rattle.rules.specs.declared.RunAnswer.the-variants.{Accepted, BadSize, BadRegisters, BadBuffer, BadKeys, BadConsole, BadBudget}
 use Rattle.rules.specs.Record.{isRunning}
-use Rattle.rules.specs.Step.{State}
+use Rattle.rules.specs.Step.{State, Stepped}
 use Rattle.rules.specs.Run.{runNumber, isAccepted, run, reported}
+use Rattle.rules.specs.Walks.{eventsOf}
 use Rattle.rules.proofs.NoSteps.{NoSteps, refused-run, stopped-run, unbudgeted-run}
 use Rattle.refusals.specs.View.{viewOf}
 use Rattle.runs.specs.declared.RunResult.{RunResult}
@@ -34,6 +38,12 @@ refusing BadKeys h = refl
 refusing BadConsole h = refl
 refusing BadBudget h = refl
 
+-- without a step there is no walk
+no-walks : {B : Type 0} (ts : List (Stepped B)) → length ts ≡ 0 → walksIn (eventsOf ts) ≡ 0
+unfolding eventsOf walksIn
+no-walks [] e = refl
+no-walks (t ∷ ts) e = absurd (omega arith)
+
 -- ---- `v9::run`, `v9::run_packed`
 
 module _ {ks : List Key} {budget : ℕ} {m : Machine} {mem con : List ℕ} {g : RunResult} {mem′ con′ : List ℕ} (r : RunsAs ks budget m mem con g mem′ con′) where
@@ -54,6 +64,13 @@ module _ {ks : List Key} {budget : ℕ} {m : Machine} {mem con : List ℕ} {g : 
 
   pub unbudgeted-unchanged : budget ≡ 0 → (g .steps ≡ 0) × Unchanged m mem con (g .machine) mem′ con′
   unbudgeted-unchanged e = unchanged (unbudgeted-run buffered ks budget (viewOf m mem con) e)
+
+  -- a refused run reports no walks, nor does an accepted one without a step
+  pub unstepped-walks : g .steps ≡ 0 → g .walks ≡ 0
+  unstepped-walks e = r .walks ∙ no-walks (run buffered ks budget (viewOf m mem con) .steps) (sym (r .steps) ∙ e)
+
+  pub refused-walks : (runNumber (g .answer) ≡ 0 → ⊥) → g .walks ≡ 0
+  refused-walks h = unstepped-walks (refused-unchanged h .0)
 
 -- ---- `v9::single_step`
 

@@ -1,7 +1,7 @@
 -- Document 01, "Numbers returned": a run under way: how it starts, goes on by a key, and ends. These are the laws of the entries' loops.
 use Prim.Native.Nat.{ℕ, _+_, _≤_, _<_, _^_}
 use native.Mathlib.Omega.{arith}
-use native.Mathlib.Nat.{not-suc-le-zero}
+use native.Mathlib.Nat.{zero-add, not-suc-le-zero}
 use mathlib.Core.Bool.{Bool, true, false, true≢false}
 use mathlib.Core.Path.{_≡_, refl, sym, _∙_, ap, subst}
 use mathlib.Core.List.{List}
@@ -10,6 +10,9 @@ use lib.Dec.{ltb}
 use borrow.Author.Tests.{ltb-true}
 use Rattle.paging.specs.declared.Entry.{Entry}
 use Rattle.paging.specs.Translate.{buffered}
+use Rattle.paging.specs.Counting.{walksIn, raised}
+use Rattle.paging.proofs.CountingLaws.{raised-walks}
+use Rattle.mmu.specs.Translates.{Kept}
 use Rattle.clock.specs.Taken.{KeyFits}
 use Rattle.rules.specs.declared.Key.{Key}
 use Rattle.rules.specs.declared.Next.{Next}
@@ -18,7 +21,10 @@ use Rattle.rules.specs.declared.RunAnswer.{RunAnswer}
 use Rattle.rules.specs.Clock.{nextOf}
 use Rattle.rules.specs.Step.{State}
 use Rattle.rules.specs.Run.{keysRise, keysOk, isAccepted, allowance, runNumber, runAnswer, stepsOf, lastOf, run, reported}
+use Rattle.rules.specs.Walks.{eventsOf, walksOf, countedState}
 use Rattle.rules.proofs.StepCount.{run-count}
+use Rattle.rules.proofs.CountedSteps.{counted-steps}
+use Rattle.walk_bounds.proofs.FiveRun.{run-walks-small}
 use Rattle.refusals.specs.View.{viewOf}
 use Rattle.refusals.specs.Refusal.{refusalOf}
 use Rattle.runs.specs.declared.UnderWay.{UnderWay}
@@ -30,13 +36,17 @@ use Rattle.v9.specs.Contract.{RunsAs, StepsAs}
 use Rattle.v9.proofs.Accepted.{accepted-record, allowance-some, allowance-most}
 use Rattle.contracts.specs.Contract.{endOf}
 
+-- the state in which a run ends, its walks counted
+abbrev ending : List Key → ℕ → State (List Entry) → State Kept
+ending ks budget s = countedState (raised 0 (eventsOf (run buffered ks budget s .steps))) (run buffered ks budget s .state)
+
 -- the run under way g, with memory mem′ and console con′, is one from the record m with keys ks and a budget, with mem and con
 pub record Continues (ks : List Key) (budget : ℕ) (m : Machine) (mem con : List ℕ) (g : UnderWay) (mem′ con′ : List ℕ) : Type 0 where
   pub able : 0 < g .left → Able g (length mem′)
   pub answer : g .ran .answer ≡ run buffered ks budget (viewOf m mem con) .answer
   pub steps : g .ran .machine .cpu .regs .count ≡ m .cpu .regs .count + g .ran .steps
   pub same : g .ran .steps ≡ 0 → g .ran .machine ≡ m
-  pub state : outcome ks g mem′ con′ ≡ run buffered ks budget (viewOf m mem con) .state
+  pub state : outcome ks g mem′ con′ ≡ ending ks budget (viewOf m mem con)
 
 -- a key that is there can be counted
 pub key-fits : (ks : List Key) (taken : ℕ) {k : Next} → k ≡ nextOf ks taken → length ks < 2 ^ 64 → KeyFits (k .some) taken
@@ -48,7 +58,7 @@ key-fits ks taken {k} q h = record { fits = λ e. go (ltb taken (length ks)) ref
     go false e z = let w : _≡_ {A = Bool} false true = rw e at z in absurd (true≢false (sym w))
 
 -- nothing is left
-end-over : (ks : List Key) (n : ℕ) (s : State (List Entry)) → n ≡ 0 → endOf ks n s ≡ s
+end-over : (ks : List Key) (n : ℕ) (s : State Kept) → n ≡ 0 → endOf ks n s ≡ s
 unfolding stepsOf lastOf
 end-over ks n s e = ap (λ (i : ℕ). endOf ks i s) e
 
@@ -90,7 +100,9 @@ module _ (ks : List Key) (budget : ℕ) (m : Machine) (mem con : List ℕ) where
     answer = answers;
     steps = omega arith;
     same = λ _. refl;
-    state = sym (end-left ks (allowance first-answer budget) start) ∙ ap (λ (a : RunAnswer). endOf ks (allowance a budget) start) answers;
+    state = sym (end-left ks (allowance first-answer budget) (countedState 0 start))
+        ∙ ap (λ (a : RunAnswer). endOf ks (allowance a budget) (countedState 0 start)) answers
+        ∙ counted-steps buffered ks (allowance (runAnswer buffered ks budget start) budget) 0 start;
   }
 
   module _ {g : UnderWay} {mem′ con′ : List ℕ} (u : Continues ks budget m mem con g mem′ con′) where
@@ -109,12 +121,22 @@ module _ (ks : List Key) (budget : ℕ) (m : Machine) (mem con : List ℕ) where
       number = ap (λ (b : RunAnswer). runNumber b) (u .answer);
       answer = u .answer;
       steps = omega (arith, u .steps, counted);
+      walks = walked;
       state = state;
       same = u .same;
     }
       where
+        both : countedState (g .ran .walks) (viewOf (g .ran .machine) mem′ con′) ≡ ending ks budget start
+        both = sym (end-over ks (g .left) (countedState (g .ran .walks) (viewOf (g .ran .machine) mem′ con′)) (omega (arith, e))) ∙ u .state
+
         state : viewOf (g .ran .machine) mem′ con′ ≡ run buffered ks budget start .state
-        state = sym (end-over ks (g .left) (viewOf (g .ran .machine) mem′ con′) (omega (arith, e))) ∙ u .state
+        state = ap (λ (s : State Kept). record { cpu = s .cpu; mem = s .mem; console = s .console; buffer = s .buffer .held }) both
+
+        -- five in a step at most, so that the counter never comes to 2^64
+        walked : g .ran .walks ≡ walksOf (run buffered ks budget start)
+        walked =
+            let es = eventsOf (run buffered ks budget start .steps) in
+            ap (λ (s : State Kept). s .buffer .walks) both ∙ raised-walks 0 es (omega (arith, run-walks-small ks budget start)) ∙ zero-add (walksIn es)
 
         counted : g .ran .machine .cpu .regs .count ≡ m .cpu .regs .count + reported (run buffered ks budget start)
         counted = ap (λ (s : State (List Entry)). s .cpu .regs .count) state ∙ run-count buffered ks budget start

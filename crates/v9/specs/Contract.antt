@@ -1,4 +1,4 @@
--- Document 01, "How much a contract says": what a run's entry promises, for any input.
+-- Document 01, "How much a contract says", and document 02, item 6: what a run's entry promises, for any input.
 use Prim.Native.Nat.{ℕ}
 use mathlib.Core.Path.{_≡_}
 use mathlib.Core.List.{List}
@@ -6,6 +6,7 @@ use Rattle.paging.specs.Translate.{buffered}
 use Rattle.rules.specs.declared.Key.{Key}
 use Rattle.rules.specs.declared.Machine.{Machine}
 use Rattle.rules.specs.Run.{runNumber, run, reported}
+use Rattle.rules.specs.Walks.{walksOf}
 use Rattle.refusals.specs.View.{viewOf}
 use Rattle.runs.specs.declared.RunResult.{RunResult}
 
@@ -15,6 +16,8 @@ pub record RunsAs (ks : List Key) (budget : ℕ) (m : Machine) (mem con : List �
   pub number : runNumber (r .answer) ≡ runNumber (run buffered ks budget (viewOf m mem con) .answer)
   pub answer : r .answer ≡ run buffered ks budget (viewOf m mem con) .answer
   pub steps : r .steps ≡ reported (run buffered ks budget (viewOf m mem con))
+  -- "Report with each run its table walks, equal to the walks of the step rules"
+  pub walks : r .walks ≡ walksOf (run buffered ks budget (viewOf m mem con))
   pub state : viewOf (r .machine) mem′ con′ ≡ run buffered ks budget (viewOf m mem con) .state
   -- without a step the record given comes back, slots included
   pub same : r .steps ≡ 0 → r .machine ≡ m

@@ -19,8 +19,13 @@ pub const MAX_CASE: usize = 131_072;
 pub const KIND_RUNS: u32 = 1;
 pub const KIND_LOAD: u32 = 2;
 
-/// All three of the library's entries: 1 `run`, 2 `run_packed`, 4 `single_step`.
-pub const ALL_ENTRIES: u32 = 7;
+/// The library's entries, in the order of their lines: `run`, `run_packed`,
+/// `single_step`, and `run_packed` in calls of budget 1.
+pub const ENTRIES: [u32; 4] = [1, 2, SINGLE_STEP, 8];
+/// The one that reports no walks.
+pub const SINGLE_STEP: u32 = 4;
+/// The sum of all of them.
+pub const ALL_ENTRIES: u32 = 15;
 
 #[derive(Clone, Debug, Default, PartialEq, Eq)]
 pub struct RunInput {
@@ -31,7 +36,7 @@ pub struct RunInput {
 /// A starting memory, console and record, and a list of runs handed on.
 #[derive(Clone, Debug, PartialEq, Eq)]
 pub struct Runs {
-    /// The entries that make the runs, each from this start: a sum of 1, 2, 4.
+    /// The entries that make the runs, each from this start: a sum of `ENTRIES`.
     pub entries: u32,
     pub memory: Vec<u8>,
     pub console: Vec<u8>,

@@ -4,11 +4,14 @@
 mod causes;
 mod marks;
 mod opcodes;
+mod walks;
 
 use crate::types::{Access, Registers, Stop, Trap};
+use crate::walks::Walks;
 use causes::Causes;
 use marks::Marks;
 use std::fmt::Arguments;
+use walks::Walked;
 
 /// Who made a store: an instruction or a trap frame.
 #[derive(Clone, Copy, Debug, PartialEq, Eq)]
@@ -66,8 +69,7 @@ pub struct Coverage {
     pub held_stores: [u64; 2],
     marks: Marks,
     pub causes: Causes,
-    /// Walks of the step so far.
-    walks_now: usize,
+    pub walked: Walked,
 }
 
 impl Default for Coverage {
@@ -91,7 +93,7 @@ impl Default for Coverage {
             held_stores: [0; 2],
             marks: Marks::default(),
             causes: Causes::default(),
-            walks_now: 0,
+            walked: Walked::default(),
         }
     }
 }
@@ -113,7 +115,6 @@ impl Coverage {
     }
 
     pub fn walk(&mut self, access: Access, user: bool, kept: bool) {
-        self.walks_now += 1;
         let counts = if kept { &mut self.walks_kept } else { &mut self.walks_faulted };
         counts[access as usize][usize::from(user)] += 1;
     }
@@ -129,11 +130,11 @@ impl Coverage {
     }
 
     /// A step, by the registers before and after it.
-    pub fn step(&mut self, before: &Registers, after: &Registers) {
+    pub fn step(&mut self, before: &Registers, after: &Registers, walks: &Walks) {
         self.marks.step(before, after);
         self.causes.step(before, after);
-        self.walks[self.walks_now] += 1;
-        self.walks_now = 0;
+        self.walks[walks.in_step as usize] += 1;
+        self.walked.step(walks, after.stop);
     }
 
     pub fn end(&mut self, answer: u32, steps: u64, stop: Stop) {
@@ -170,6 +171,7 @@ impl Coverage {
         sum(&mut self.held_stores, &other.held_stores);
         self.marks.add(&other.marks);
         self.causes.add(&other.causes);
+        self.walked.add(&other.walked);
     }
 }
 
@@ -245,6 +247,7 @@ impl Coverage {
         }
         self.marks.visit(&mut visit);
         self.causes.visit(&mut visit);
+        self.walked.visit(&mut visit);
     }
 
     /// Hits, walks and entries.

@@ -12,6 +12,7 @@ pub mod opcodes;
 pub mod refusals;
 pub mod tables;
 pub mod traps;
+pub mod walks;
 
 use crate::case::{Case, Runs};
 use crate::types::Registers;
@@ -29,6 +30,7 @@ pub fn all() -> Vec<Named> {
         .chain(named(marks::cases()))
         .chain(named(addresses::cases()))
         .chain(causes::cases())
+        .chain(named(walks::cases()))
         .chain(named(opcodes::cases()))
         .chain(named(tables::cases()))
         .chain(division::cases())

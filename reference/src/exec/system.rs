@@ -85,6 +85,7 @@ impl Machine {
         if self.regs.a >= self.memory_size() || unaligned {
             self.coverage.causes.refused_pdir();
             self.refuse(self.regs.a, self.misnamed_pdir(Cause::AddressBeyond));
+            self.misread_unwalked(Mistake::PdirFaultCounted);
             if self.makes(Mistake::PdirFaultEmpties) {
                 self.empty(Emptied::Pdir);
             }
@@ -109,6 +110,7 @@ impl Machine {
 
     /// PDIR and SPAG empty the buffer, also with the value already set.
     fn empty_after(&mut self, why: Emptied, same: bool) {
+        self.walks.emptied = true;
         let keeps = same && self.makes(Mistake::SameValueKeepsBuffer);
         if !keeps && !self.makes(Mistake::NeverEmptied) {
             self.empty(why);

@@ -1,5 +1,8 @@
-//! What the tests of the directed cases share; not each uses all of it.
+//! What the tests of the directed cases, and those of every step of random runs,
+//! share; not each uses all of it.
 #![allow(dead_code)]
+
+pub mod scene;
 
 use reference::case::{Case, Runs};
 use reference::directed::tables::ROWS;

@@ -13,10 +13,10 @@ use Prim.Native.Nat.{_≤_, _-_}
 use Rattle.runs.proofs.proceed.Statement.{statement}
 use Rattle.runs.proofs.proceed.Tie as tie
 
--- The first i numbers of the array, which is 65 long, unpack to the first i of the record's 64 slots; i is at most the count, and that at most 64.
+-- The first i numbers of the array, which is 66 long, unpack to the first i of the record's 64 slots; i is at most the count, and that at most 64.
 abbrev Inv-loop : tie.InvT-loop
 Inv-loop g mem console next tlb₀ hint₀ r n c held i₀ tlb hint i =
-    (held ≤ 64) × ((length (n .entries) ≡ 64) × ((i ≤ held) × ((length tlb ≡ 65) × (map unpack (take i tlb) ≡ take i (n .entries)))))
+    (held ≤ 64) × ((length (n .entries) ≡ 64) × ((i ≤ held) × ((length tlb ≡ 66) × (map unpack (take i tlb) ≡ take i (n .entries)))))
 
 abbrev μ-loop : tie.MeasureT-loop
 μ-loop g mem console next tlb₀ hint₀ r n c held i₀ tlb hint i = held - i
@@ -108,7 +108,7 @@ go-requires c κs =
     let inv = c .before .before .before .before .before .before .before .before .loop .inv .1 in
     let loop-test = c .before .before .before .before .before .before .before .loop-test in
     let recount = c .before .before .before .before .before .recount in
-    let packed = all-packed _ _ _ (inv .0) (pre .0 .entries) _ _ (recount .ensures) (inv .1 .1 .0) (inv .1 .0) (loop-test .left) (inv .1 .1 .1) in
+    let packed = all-packed _ _ _ (inv .0) (pre .0 .entries) _ _ _ (recount .ensures) (inv .1 .1 .0) (inv .1 .0) (loop-test .left) (inv .1 .1 .1) in
     (able-ready (pre .0) (packed .0) (packed .1), able-key (pre .0) (pre .1))
 
 sub-steps : tie.Need-sub-steps Inv-loop μ-loop Inv-loop2 μ-loop2
@@ -146,8 +146,8 @@ unpack-requires c κs =
     let good = c .before .before .before .before .before .before .before .before .before .before .before .before .before .go .ensures .good in
     page-fits _ _ _ (good .buffer) (good .entries) (omega (arith, c .loop2-test .taken, c .before .before .count .ensures))
 
-mul-t51 : tie.Need-mul-t51 Inv-loop μ-loop Inv-loop2 μ-loop2
-mul-t51 c = omega (arith, c .before .loop2-test .taken, c .before .before .loop2 .inv .0)
+mul-t52 : tie.Need-mul-t52 Inv-loop μ-loop Inv-loop2 μ-loop2
+mul-t52 c = omega (arith, c .before .loop2-test .taken, c .before .before .loop2 .inv .0)
 
 element-set-from-n : tie.Need-element-set-from-n Inv-loop μ-loop Inv-loop2 μ-loop2
 element-set-from-n c = omega (arith, c .before .loop2-test .taken, c .before .before .loop2 .inv .0)
@@ -170,19 +170,25 @@ loop2-again c =
     let unpacked = unpacked-turn (good .buffer) (count .ensures) _ _ (inv .1 .1 .1) slots test (c .unpack .ensures) in
     (loop2 .inv .0, (omega (arith, test), (inv .0, (inv .1 .0, (size, unpacked)))))
 
+walks-requires : tie.Need-walks-requires Inv-loop μ-loop Inv-loop2 μ-loop2
+walks-requires c κs =
+    let go = c .before .before .before .before .before .before .before .before .before .before .before .before .before .before .go in
+    go .ensures .good .buffer
+
 returns : tie.Need-returns Inv-loop μ-loop Inv-loop2 μ-loop2
 returns c =
-    let inv2 = c .before .loop2 .inv .1 in
-    let count = c .before .before .count .ensures in
-    let at-go = c .before .before .before .before .before .before .before .before .before .before .before .before .before in
+    let inv2 = c .before .before .before .loop2 .inv .1 in
+    let loop2-test = c .before .before .loop2-test in
+    let count = c .before .before .before .before .count .ensures in
+    let at-go = c .before .before .before .before .before .before .before .before .before .before .before .before .before .before .before in
     let go = at-go .go .ensures in
     let recount = at-go .before .before .before .before .before .before .recount in
     let loop-test = at-go .before .before .before .before .before .before .before .before .loop-test in
     let inv = at-go .before .before .before .before .before .before .before .before .before .loop .inv .1 in
     let able = at-go .before .before .before .before .before .before .before .before .before .before .before .before .before .before .before .pre .0 in
-    let packed = all-packed _ _ _ (inv .0) (able .entries) _ _ (recount .ensures) (inv .1 .1 .0) (inv .1 .0) (loop-test .left) (inv .1 .1 .1) in
-    let unpacked = unpacked-last (go .good .buffer) count _ _ (inv2 .1 .1 .1 .1) (inv2 .0) (c .loop2-test .left) in
-    proceeds-in-place able (packed .0) (packed .1) go _ unpacked count _ refl (inv2 .1 .0) (inv2 .1 .1 .0)
+    let packed = all-packed _ _ _ (inv .0) (able .entries) _ _ _ (recount .ensures) (inv .1 .1 .0) (inv .1 .0) (loop-test .left) (inv .1 .1 .1) in
+    let unpacked = unpacked-last (go .good .buffer) count _ _ (inv2 .1 .1 .1 .1) (inv2 .0) (loop2-test .left) in
+    proceeds-in-place able (packed .0) (packed .1) go _ unpacked count (c .walks .ensures) _ refl (inv2 .1 .0) (inv2 .1 .1 .0)
 
 pub proceed-spec : {M : Type 1} → statement M
 proceed-spec =
@@ -216,10 +222,12 @@ proceed-spec =
     mul-unpack
     array-read-unpack
     unpack-requires
-    mul-t51
+    mul-t52
     element-set-from-n
     add-j
     loop2-less
     loop2-again
+    (λ c. search needs)
+    walks-requires
     (λ c. search needs) (λ c. search needs)
     returns)

@@ -10,7 +10,7 @@ abbrev Inv-loop : tie.InvT-loop
 Inv-loop s no' mem₀ con₀ entry₀ mem con entry = (length mem ≡ length mem₀) × (length con ≡ length con₀) × (0 < entry)
 
 abbrev μ-loop : tie.MeasureT-loop
-μ-loop s no' mem₀ con₀ entry₀ mem con entry = 8 - entry
+μ-loop s no' mem₀ con₀ entry₀ mem con entry = 16 - entry
 
 pub passes-spec : {M : Type 1} → statement M
 passes-spec =
