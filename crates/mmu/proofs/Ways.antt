@@ -75,17 +75,20 @@ frame-small m pdir page k user {l} {m′} {r} {f} g p e =
     let h : f < length m / 4096 = frame-found (length m) _ (ap (λ (x : WalkResult). x .answer) (sym p) ∙ e) i in
     omega (arith, g .directory .small)
 
--- the lent buffer with one walk more
+-- one walk more, and the lent buffer with it
+abbrev oneMore : List ℕ → ℕ
+oneMore l = (walks l + 1) % 2 ^ 64
+
 abbrev pub raisedIn : List ℕ → List ℕ
-raisedIn l = set l 65 ((walks l + 1) % 2 ^ 64)
+raisedIn l = set l 65 (oneMore l)
 
 module _ (l : List ℕ) {l₁ : List ℕ} (b : Buffer l) (c : l₁ ≡ raisedIn l) where
   -- the walk is counted first: what is held stays
-  counted-walk : lent l₁ ≡ counted (entriesIn l) ((walks l + 1) % 2 ^ 64)
-  counted-walk = rw (c, held-raised l b ((walks l + 1) % 2 ^ 64), walks-raised l b ((walks l + 1) % 2 ^ 64))
+  counted-walk : lent l₁ ≡ counted (entriesIn l) (oneMore l)
+  counted-walk = rw (c, held-raised l b (oneMore l), walks-raised l b (oneMore l))
 
   pub counted-buffer : Buffer l₁
-  counted-buffer = rw c (buffer-raised l b ((walks l + 1) % 2 ^ 64))
+  counted-buffer = rw c (buffer-raised l b (oneMore l))
 
   held-still : entriesIn l₁ ≡ entriesIn l
   held-still = ap (λ (k : Kept). k .held) counted-walk
@@ -98,7 +101,7 @@ module _ (l : List ℕ) {l₁ : List ℕ} (b : Buffer l) (c : l₁ ≡ raisedIn 
 
 module _ (pdir : ℕ) (q : Request) (m l : List ℕ) (g : Good (length m) pdir l) (small : q .addr < 4294967296)
     {r : PageWalk} {m′ : List ℕ} (p : walkResult r m′ ≡ walkedBy (walk m pdir (q .addr / 4096) (q .kind) (q .user))) where
-  refill-by : result (answerFor q r) m′ (counted (keptFor (q .addr / 4096) (entriesIn l) r) ((walks l + 1) % 2 ^ 64))
+  refill-by : result (answerFor q r) m′ (counted (keptFor (q .addr / 4096) (entriesIn l) r) (oneMore l))
       ≡ seen (countedFrom (walks l) (pagedBy none pdir q m (entriesIn l)))
   unfolding pagedBy refilled walkedBy
   refill-by =
@@ -119,7 +122,7 @@ module _ (pdir : ℕ) (q : Request) (m l : List ℕ) (g : Good (length m) pdir l
         → (lent l′ ≡ counted (keep (unpack e) (entriesIn l₁)) (walks l₁)) × Buffer l′ → at ≡ f * 4096 + cut (q .size) (q .addr) % 4096
         → Refills pdir q m l (At at) m′ l′
     refill-mapped e d k h a =
-        let n : walks l₁ ≡ (walks l + 1) % 2 ^ 64 = ap (λ (x : Kept). x .walks) (counted-walk l (g .buffer) c) in
+        let n : walks l₁ ≡ oneMore l = ap (λ (x : Kept). x .walks) (counted-walk l (g .buffer) c) in
         record { same = rw (h .0, held-still l (g .buffer) c, n, k, a) (rw d at refill-by); buffer = h .1 }
 
     pub refill-faulted : {code : ℕ} {cause : Cause} {a : Answer} → r ≡ Faulted code cause → a ≡ denied code cause q → Refills pdir q m l a m′ l₁

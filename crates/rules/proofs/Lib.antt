@@ -19,4 +19,4 @@ mod InterruptFrame
 pub mod StepCount
 pub mod StepsInParts
 pub mod NoSteps
-pub mod CountedSteps
+pub mod WalkCounting

@@ -23,7 +23,7 @@ use Rattle.rules.specs.Step.{State}
 use Rattle.rules.specs.Run.{keysRise, keysOk, isAccepted, allowance, runNumber, runAnswer, stepsOf, lastOf, run, reported}
 use Rattle.rules.specs.Walks.{eventsOf, walksOf, countedState}
 use Rattle.rules.proofs.StepCount.{run-count}
-use Rattle.rules.proofs.CountedSteps.{counted-steps}
+use Rattle.rules.proofs.WalkCounting.{counted-steps}
 use Rattle.walk_bounds.proofs.FiveRun.{run-walks-small}
 use Rattle.refusals.specs.View.{viewOf}
 use Rattle.refusals.specs.Refusal.{refusalOf}

@@ -12,7 +12,7 @@ use Rattle.rules.specs.Tree.{Ended, storeEvents}
 use Rattle.rules.specs.Trap.{Final, Effect, none, setSpace, deliver, print}
 use Rattle.rules.specs.Clock.{nextOf}
 use Rattle.rules.specs.Step.{State, effectEvents, finishedEvents, stepBy, step}
-use Rattle.rules.proofs.CountedSteps.{stores-walks}
+use Rattle.rules.proofs.WalkCounting.{stores-walks}
 use Rattle.walk_bounds.specs.Bounds.{AtMostFive}
 use Rattle.walk_bounds.proofs.OneWalk.{OneWalk, one-buffered, one-reader, tree-walks}
 use Rattle.walk_bounds.proofs.FiveStep.{step-within}
