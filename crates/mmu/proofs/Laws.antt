@@ -52,7 +52,8 @@ at-within n {s} {k} {addr} {user} {m} {l} {a} {m′} {l′} {p} g t e =
 -- ---- what stays good
 
 -- an emptied buffer, with this directory or another one
-pub good-emptied : {n pdir pdir′ : ℕ} {l l′ : List ℕ} → Good n pdir l → pdir′ % 4096 ≡ 0 → pdir′ < n → keptIn l′ ≡ translator .empty (keptIn l) → Buffer l′ → Good n pdir′ l′
+pub good-emptied : {n pdir pdir′ : ℕ} {l l′ : List ℕ} → Good n pdir l → pdir′ % 4096 ≡ 0 → pdir′ < n → keptIn l′ ≡ translator .empty (keptIn l) → Buffer l′
+    → Good n pdir′ l′
 good-emptied {n} g z h e b =
     record {
       directory = record { whole = g .directory .whole; small = g .directory .small; aligned = z; below = h };
