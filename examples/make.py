@@ -1,5 +1,5 @@
 #!/usr/bin/env python3
-"""make.py: write the example executables beside this file.
+"""make.py: write the example executables, and the example machine, beside this file.
 
 An executable is four words, magic 0xC0DEF00D, bss, entry, data start, then the body (document 01, "The record and the loaded
 program"). An instruction is a word: its opcode in the low eight bits, imm in the upper 24.
@@ -13,17 +13,31 @@ OPCODES = {
     "LBL": 0x26, "LBG": 0x2D, "LBI": 0x3B, "LBA": 0x3E, "SL": 0x40, "SG": 0x45, "SX": 0x4A, "ADDI": 0x54, "MULI": 0x5A, "DVU": 0x5F,
     "DVUI": 0x60, "MDUI": 0x66, "BZ": 0x84, "BE": 0x88, "CLI": 0x96, "STI": 0x97, "RTI": 0x98, "BIN": 0x99, "BOUT": 0x9A, "PSHA": 0x9D, "POPA": 0xA3,
     "IVEC": 0xA4, "PDIR": 0xA5, "SPAG": 0xA6, "TIME": 0xA7, "LVAD": 0xA8, "TRAP": 0xA9, "SUSP": 0xAB, "LCA": 0xAD, "IDLE": 0xD1,
+    # document 02, item 7
+    "LGD": 0x1A, "LBGD": 0x32, "LBIF": 0x3D, "LBAD": 0x3F, "SGD": 0x48, "SGF": 0x49, "ADDF": 0x4F, "SUBF": 0x50, "MULF": 0x51, "BLTF": 0x8E,
+    "CUD": 0x93, "CDU": 0x95,
 }
 # whose imm is added to the pc that has moved on
-RELATIVE = {"JMP", "JSR", "LG", "LBG", "SG", "BZ", "BE"}
+RELATIVE = {"JMP", "JSR", "LG", "LBG", "SG", "BZ", "BE", "LGD", "LBGD", "SGD", "SGF", "BLTF"}
+
+
+def halves(line):
+    """A line, or the two words of a double, the low one first."""
+    name, _, operand = line.partition(" ")
+    if name != "DOUBLE":
+        return [line]
+    return [f"WORD {half}" for half in struct.unpack("<2I", struct.pack("<d", float(operand)))]
 
 
 def assemble(lines):
-    """The words of a program, and its labels: each line an opcode, and a number or a label; `WORD n` is the number itself; a line `name:` sets a label."""
+    """The words of a program, and its labels: each line an opcode, and a number or a label; `WORD n` is the number itself; a line `name:` sets a label.
+    `DOUBLE x` is two words; its label, which begins with `double_`, must be a multiple of eight."""
+    lines = [half for line in lines for half in halves(line)]
     labels, at = {}, 0
     for line in lines:
         if line.endswith(":"):
             labels[line[:-1]] = at
+            assert not line.startswith("double_") or at % 8 == 0, line
         else:
             at += 4
     words, at = [], 0
@@ -44,12 +58,29 @@ def assemble(lines):
     return words, labels
 
 
-def write(name, program, entry=0):
-    """Writes a program. A comment runs from `;` to the end of its line; data start at the label `data`, or at the end."""
+def assembled(program):
+    """The words and labels of a program. A comment runs from `;` to the end of its line."""
     lines = (line.partition(";")[0].strip() for line in program.splitlines())
-    words, labels = assemble([line for line in lines if line])
+    return assemble([line for line in lines if line])
+
+
+def write(name, program, entry=0):
+    """Writes a program; data start at the label `data`, or at the end."""
+    words, labels = assembled(program)
     header = [0xC0DEF00D, 0, entry, labels.get("data", 4 * len(words))]
     (HERE / name).write_bytes(struct.pack(f"<{4 + len(words)}I", *header, *words))
+
+
+def write_machine(name, program):
+    """Writes the machine of a program in the mode with doubles, as it is before its first step: document 02, item 5, of 32,768 bytes."""
+    words, _ = assembled(program)
+    memory = struct.pack(f"<{len(words)}I", *words).ljust(32768, b"\0")
+    # sp, the fourth, is M; kbchar, the thirteenth, has no key; user to cause are 0; then step count, mode, f, g
+    numbers = [0, 0, 0, len(memory), *[0] * 8, 0xFFFFFFFF, *[0] * 8]
+    registers = struct.pack("<21IQIQQ", *numbers, 0, 1, 0, 0)
+    entries = 28 + len(registers)
+    header = [len(memory) // 4096, 0, 0, 28, entries, entries, entries]
+    (HERE / name).write_bytes(struct.pack("<7I", *header) + registers + memory)
 
 
 # P1: a = 9,600,000, the bench's pellet rate
@@ -335,3 +366,83 @@ write("ration.v9", """
 write("refused.v9", """
     HALT
 """, entry=4)
+
+# doubles: a flow meter's pulses, made litres and added up
+write_machine("flow.machine", """
+    next:
+    LG at
+    LX 0                ; the pulses of an interval; 0 ends the table
+    BZ done
+    CUD                 ; f = pulses
+    LBGD double_factor
+    MULF                ; their litres
+    LBGD double_total
+    ADDF
+    SGD double_total
+    LBGD double_limit
+    BLTF on
+    LG over             ; an interval that ends at the limit or above
+    ADDI 1
+    SG over
+    on:
+    LG at
+    ADDI 4
+    SG at
+    JMP next
+    done:
+    LGD double_total
+    SGF single          ; the total as a single, for the radio
+    CDU                 ; whole litres
+    LCA
+    JSR decimal
+    LBI 0x2E
+    BOUT                ; a point
+    LGD double_total
+    CDU
+    CUD
+    LBAD                ; g = whole litres
+    LGD double_total
+    SUBF
+    LBIF 10
+    MULF
+    CDU                 ; tenths
+    JSR decimal
+    LBI 0x0A
+    BOUT
+    LG single
+    LBG over
+    HALT
+    decimal:            ; prints a, the quotient by ten first
+    PSHA
+    DVUI 10
+    BZ digit
+    JSR decimal
+    digit:
+    POPA
+    MDUI 10
+    ADDI 0x30
+    LBA
+    BOUT
+    LEV 0
+    at:
+    WORD pulses
+    over:
+    WORD 0
+    single:
+    WORD 0
+    WORD 0              ; doubles stand at multiples of eight
+    double_factor:
+    DOUBLE 0.0125       ; litres a pulse
+    double_total:
+    DOUBLE 0
+    double_limit:
+    DOUBLE 80
+    pulses:
+    WORD 1200
+    WORD 1315
+    WORD 1287
+    WORD 990
+    WORD 1402
+    WORD 1100
+    WORD 0
+""")

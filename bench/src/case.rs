@@ -43,6 +43,7 @@ macro_rules! numbers {
 numbers! {
     a: word, b: word, c: word, sp: word, usp: word, ksp: word, pc: word, ivec: word, pdir: word, vadr: word, timer: word, timeout: word, kbchar: word,
     user: flag, iena: flag, paging: flag, waiting: flag, key_pending: flag, timer_pending: flag, stop: word, cause: word, count: long,
+    mode: flag, f: long, g: long,
 }
 
 /// Memory is written in chunks of this many bytes, but for those that are all zero.

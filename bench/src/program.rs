@@ -36,6 +36,76 @@ pub fn divisions() -> Vec<u32> {
     [(a, b), (-a, b), (a, -b), (-a, -b)].map(divided).concat()
 }
 
+/// Where the flow meter's numbers stand, by sp: the factor, the total, its single, the limit, a quotient.
+const FACTOR: i32 = -96;
+const TOTAL: i32 = -88;
+const SINGLE: i32 = -80;
+const LIMIT: i32 = -72;
+const MEAN: i32 = -64;
+
+/// A flow meter: pulses counted, made litres by a factor, added up until a limit, a mean taken. Of about 44 steps a round fifteen are floating.
+pub fn flow_meter() -> Vec<u32> {
+    vec![
+        // the next count of pulses, by a table of sixteen words
+        op(LCA, 0),
+        op(LL, -40),
+        op(ADDI, 4),
+        op(ANDI, 0x3c),
+        op(SL, -40),
+        op(LX, 0x4000),
+        op(ADDI, 17),
+        op(ANDI, 0xff),
+        // its litres, added to the total
+        op(CUD, 0),
+        op(LBLD, FACTOR),
+        op(MULF, 0),
+        op(LBLD, TOTAL),
+        op(ADDF, 0),
+        op(SLD, TOTAL),
+        op(SLF, SINGLE),
+        op(LL, SINGLE),
+        op(SL, -44),
+        op(LL, -36),
+        op(ADDI, 1),
+        op(SL, -36),
+        op(LBA, 0),
+        // beyond the limit the total starts again with what CDI leaves of it
+        op(LBLD, LIMIT),
+        op(BLTF, 12),
+        op(CDI, 0),
+        op(ANDI, 7),
+        op(CID, 0),
+        op(SLD, TOTAL),
+        op(LL, -36),
+        op(ORI, 1),
+        op(CID, 0),
+        op(LBAD, 0),
+        op(LLD, TOTAL),
+        op(DIVF, 0),
+        op(SLD, MEAN),
+        op(LL, -44),
+        op(XORI, 0x55),
+        op(SHRI, 3),
+        op(SL, -48),
+        op(LBL, -36),
+        op(MULI, 3),
+        op(ADDL, -36),
+        op(SRUI, 2),
+        op(XOR, 0),
+        op(LTU, 0),
+        op(BNZ, 4),
+        op(NOP, 0),
+    ]
+}
+
+/// The flow meter's factor and limit, and its pulses at 0x4000: the words that its memory has at the start.
+pub fn flow_meter_data(sp: u32) -> Vec<(u32, Vec<u32>)> {
+    let double = |value: f64| vec![value.to_bits() as u32, (value.to_bits() >> 32) as u32];
+    let at = |place: i32| sp.wrapping_add(place as u32);
+    let pulses = (0..16).map(|nth| 40 + nth * 13 % 29).collect();
+    vec![(at(FACTOR), double(0.0125)), (at(LIMIT), double(1000.0)), (0x4000, pulses)]
+}
+
 /// Loads, stores, a push, a pop, and a call whose target is the return that follows it.
 pub fn transfers() -> Vec<u32> {
     let mut body = vec![

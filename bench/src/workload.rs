@@ -4,7 +4,8 @@ use crate::case::{Case, Run, RUN_PACKED, SINGLE_STEP};
 use crate::opcode::{op, RTI};
 use crate::plain::Machine;
 use crate::program::{
-    arithmetic, copy_16_kib, divisions, mixed, pages, repeated, touched, transfers, FAR_PAGE,
+    arithmetic, copy_16_kib, divisions, flow_meter, flow_meter_data, mixed, pages, repeated,
+    touched, transfers, FAR_PAGE,
 };
 
 pub struct Workload {
@@ -15,6 +16,8 @@ pub struct Workload {
     pub timeout: u32,
     /// Made in calls of budget 1.
     pub by_step: bool,
+    /// In the mode with doubles, over the flow meter's data.
+    pub doubles: bool,
 }
 
 /// Two measurements whose costs a step should be the same.
@@ -32,7 +35,15 @@ const TABLE: u32 = 0x2000;
 pub const HANDLER: u32 = 0x800;
 
 fn unpaged(name: &'static str, program: Vec<u32>) -> Workload {
-    Workload { name, program, memory: USUAL, paged: false, timeout: 0, by_step: false }
+    Workload {
+        name,
+        program,
+        memory: USUAL,
+        paged: false,
+        timeout: 0,
+        by_step: false,
+        doubles: false,
+    }
 }
 
 fn paged(name: &'static str, program: Vec<u32>) -> Workload {
@@ -54,6 +65,8 @@ pub fn all() -> Vec<Workload> {
         Workload { timeout: 49, ..unpaged("timer trap every 50 steps", repeated(arithmetic())) },
         unpaged("MCPY of 16 KiB", repeated(copy_16_kib())),
         paged("70 pages in rotation", repeated(pages(70))),
+        Workload { doubles: true, ..unpaged("doubles", repeated(flow_meter())) },
+        Workload { doubles: true, ..paged("doubles, paged", repeated(flow_meter())) },
         Workload { by_step: true, ..unpaged("calls of budget 1", repeated(mixed())) },
         Workload { by_step: true, ..paged("calls of budget 1, 20 pages", twenty_pages()) },
     ]
@@ -91,10 +104,15 @@ fn machine(workload: &Workload) -> Machine {
         put(&mut memory, DIRECTORY, &[TABLE | 7]);
         put(&mut memory, TABLE, &(0..96).map(|page| frame(page) << 12 | 7).collect::<Vec<u32>>());
     }
+    let sp = workload.memory as u32 - 256;
+    if workload.doubles {
+        flow_meter_data(sp).iter().for_each(|(at, words)| put(&mut memory, *at, words));
+    }
     Machine {
         a: 1,
         b: 2,
-        sp: workload.memory as u32 - 256,
+        sp,
+        mode: workload.doubles,
         ivec: HANDLER,
         pdir: if workload.paged { DIRECTORY } else { 0 },
         timeout: workload.timeout,

@@ -80,6 +80,19 @@ fn every_family_is_made() {
 }
 
 #[test]
+fn one_step_in_three_is_of_doubles() {
+    let floating = [LLD, LBLD, LBAD, SLD, SLF, ADDF, MULF, DIVF, BLTF, CID, CUD, CDI];
+    for name in ["doubles", "doubles, paged"] {
+        let seen = seen(&named(name), 200_000);
+        let made: usize = floating.iter().map(|code| seen.opcodes[code]).sum();
+        assert!((64_000..70_000).contains(&made), "{name}: {made}");
+        assert_eq!(seen.traps, 0);
+        // the total starts again, and no number is lost
+        assert!(f64::from_bits(seen.machine.f).is_normal() && seen.opcodes[&CDI] > 2, "{name}");
+    }
+}
+
+#[test]
 fn the_timer_traps_every_fifty_steps() {
     assert_eq!(seen(&named("timer trap every 50 steps"), 50_000).traps, 1000);
 }

@@ -23,6 +23,8 @@ const GIVEN: usize = 32;
 const RUNS: usize = 36;
 const NUMBERS: usize = 56;
 const FIRST_NUMBER: usize = 60;
+/// The place of the mode among the numbers; f and g follow.
+const MODE: usize = 22;
 /// Where `good` has its parts.
 const SLOT: usize = FIRST_NUMBER + 8 * NAMES.len();
 const FIRST_CHUNK: usize = SLOT + 16;
@@ -151,11 +153,13 @@ fn fields() -> Vec<Vec<u8>> {
 }
 
 /// Too large for the record's fields (13 words, 4 flags, 2 marks, the stop
-/// reason, the cause), or for a slot's rights.
+/// reason, the cause, the mode), or for a slot's rights.
 fn numbers() -> Vec<Vec<u8>> {
     let place = |nth: usize| FIRST_NUMBER + 8 * nth;
-    let mut list: Vec<Vec<u8>> = (0..21).map(|nth| with(place(nth) + 4, 1)).collect();
+    let narrow = (0..21).chain([MODE]);
+    let mut list: Vec<Vec<u8>> = narrow.map(|nth| with(place(nth) + 4, 1)).collect();
     list.extend((13..19).map(|flag| with(place(flag), 2)));
+    list.extend([2, 0x100, u32::MAX].map(|mode| with(place(MODE), mode)));
     list.push(with(place(19), 4));
     list.extend([8, 0x100, u32::MAX].map(|cause| with(place(20), cause)));
     for right in [SLOT + 8, SLOT + 12] {
@@ -193,6 +197,9 @@ fn unbroken() -> Vec<Vec<u8>> {
         with(COUNT, u32::MAX),
         with(FIRST_NUMBER + 8 * 20, 7),
         with(FIRST_NUMBER + 8 * 21 + 4, u32::MAX),
+        with(FIRST_NUMBER + 8 * MODE, 1),
+        with(FIRST_NUMBER + 8 * MODE + 12, u32::MAX),
+        with(FIRST_NUMBER + 8 * MODE + 20, u32::MAX),
         with(SECOND_CHUNK, 4093),
         with(SECOND_CHUNK, 2),
         with(ENTRIES, 1),

@@ -132,7 +132,7 @@ impl Machine {
     /// The upper half of a frame's code slot, which keeps its bytes.
     pub fn misread_code_slot(&mut self, code_at: u32) {
         if self.makes(Mistake::FrameHoldsCause) {
-            self.store(code_at + 4, 4, self.regs.cause as u32, Storer::Frame);
+            self.store(code_at + 4, 4, self.regs.cause as u64, Storer::Frame);
         }
     }
 }

@@ -14,6 +14,8 @@ pub mod compare;
 pub mod coverage;
 pub mod digest;
 pub mod directed;
+pub mod double;
+pub mod doubles;
 pub mod exec;
 pub mod expect;
 pub mod families;

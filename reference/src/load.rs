@@ -34,6 +34,7 @@ pub fn load_with(memory: &mut [u8], file: &[u8], mistake: Option<Mistake>) -> (u
     record.regs.pc = words::get(file, 8, 4);
     record.regs.sp = memory.len() as u32;
     record.regs.kbchar = NO_KEY;
+    record.regs.mode = mistake == Some(Mistake::LoadGivesDoubles);
     (0, record)
 }
 

@@ -13,8 +13,9 @@ pub struct Judge<'a> {
     shown: Vec<Vec<Shown>>,
     /// The cases, the cheapest first: few steps, a small memory.
     by_cost: Vec<usize>,
-    /// The same in which an opcode is executed, by opcode.
-    executing: Vec<Vec<usize>>,
+    /// The same in which an opcode is executed, by item 7's mode (old, doubles,
+    /// either) and opcode.
+    executing: [Vec<Vec<usize>>; 3],
     /// The same in which an access is refused, by cause.
     refusing: Vec<Vec<usize>>,
 }
@@ -25,12 +26,15 @@ impl<'a> Judge<'a> {
         let cost = |number: &usize| played[*number].coverage.steps + cases[*number].bytes() / 256;
         let mut by_cost: Vec<usize> = (0..cases.len()).collect();
         by_cost.sort_by_key(cost);
-        let executes = |number: &usize, code: u8| {
+        let executes = |number: &usize, code: u8, modes: &[bool]| {
             let coverage = &played[*number].coverage;
-            coverage.ended(code, false) + coverage.ended(code, true) > 0
+            modes.iter().any(|mode| coverage.executions(code, *mode) > 0)
         };
-        let with = |code| by_cost.iter().copied().filter(|number| executes(number, code)).collect();
-        let executing = (0..=255).map(with).collect();
+        let with = |code: u8, modes: &[bool]| {
+            by_cost.iter().copied().filter(|number| executes(number, code, modes)).collect()
+        };
+        let modes: [&[bool]; 3] = [&[false], &[true], &[false, true]];
+        let executing = modes.map(|modes| (0..=255).map(|code| with(code, modes)).collect());
         let refuses = |number: &usize, cause: Cause| played[*number].coverage.causes.came(cause);
         let refused =
             |cause| by_cost.iter().copied().filter(|number| refuses(number, cause)).collect();
@@ -47,7 +51,9 @@ impl<'a> Judge<'a> {
     /// The cheapest case that tells the mistake apart.
     pub fn telling(&self, mistake: Mistake) -> Option<usize> {
         let candidates = match (opcode_of(mistake), cause_of(mistake)) {
-            (Some(code), _) => &self.executing[usize::from(code)],
+            (Some((code, mode)), _) => {
+                &self.executing[mode.map_or(2, usize::from)][usize::from(code)]
+            }
             (None, Some(cause)) => &self.refusing[cause as usize],
             (None, None) => &self.by_cost,
         };

@@ -62,6 +62,7 @@ impl Judged<'_> {
             || (!even_pdir && judged)
             || (beyond && judged)
             || (marked && self.makes(Mistake::MarksJudged))
+            || (!regs.mode && regs.f | regs.g != 0 && self.makes(Mistake::FloatsJudged))
             || (regs.count >= 1 << 63 && !self.makes(Mistake::UnjudgedField(5)))
     }
 

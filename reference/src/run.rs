@@ -31,6 +31,7 @@ impl Machine {
                 self.regs.timer_pending = false;
             }
             self.misread_reset(Mistake::CauseLastsARun);
+            self.misread_start();
             while left > 0 && self.regs.stop == Stop::Running {
                 self.step(keys);
                 left -= 1;

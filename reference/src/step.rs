@@ -23,6 +23,7 @@ impl Machine {
             self.misread_opening(&start);
         }
         self.misread_stop(&start);
+        self.misread_floats(&start);
         self.misread_step_walks(&start, due.is_some());
         self.coverage.step(&start, &self.regs, &self.walks);
     }
@@ -51,6 +52,7 @@ impl Machine {
         let sp = self.pick(Mistake::FaultedPushKeepsSp, self.regs.sp, before.sp);
         let own_pc = self.misread_return(trap, word);
         self.regs = Registers { vadr, cause, sp, ..before };
+        self.misread_faulted(trap);
         self.fault(trap, if own_pc { before.pc } else { next });
         if self.regs.stop == Stop::NoFrame {
             self.regs.pc = self.pick(Mistake::StopPcMoved, next, self.regs.pc);

@@ -14,7 +14,7 @@ use crate::random::scene::{case, Purpose};
 const SEED: u64 = 9;
 const TRIED: u64 = 2500;
 /// A random case's bytes and output may not be longer than this together.
-const LONGEST: usize = 5000;
+const LONGEST: usize = 3500;
 /// How many cases shall tell each mistake apart, if so many are found.
 const TELLING: u32 = 3;
 

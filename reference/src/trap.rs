@@ -42,6 +42,9 @@ impl Machine {
         self.store_slot(code_at, self.code(trap));
         self.misread_code_slot(code_at);
         self.coverage.trap(trap, user);
+        if self.regs.mode && self.regs.f | self.regs.g != 0 {
+            self.coverage.floats.delivered(trap.is_interrupt());
+        }
         if switches {
             self.regs.usp = self.pick(Mistake::UspKept, self.regs.usp, self.regs.sp);
             self.regs.user = false;
@@ -50,6 +53,7 @@ impl Machine {
         self.regs.iena = self.makes(Mistake::IenaKept);
         self.regs.pc = self.regs.ivec;
         self.clear_mark(trap);
+        self.misread_delivery(trap);
     }
 
     /// An interrupt's delivery clears its own mark; a fault has none.
@@ -80,7 +84,7 @@ impl Machine {
 
     /// Four bytes a slot; the other four keep.
     fn store_slot(&mut self, physical: u32, value: u32) {
-        self.store(physical, 4, value, Storer::Frame);
+        self.store(physical, 4, value.into(), Storer::Frame);
         if self.makes(Mistake::SlotsEightBytes) {
             self.store(physical + 4, 4, 0, Storer::Frame);
         }

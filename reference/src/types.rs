@@ -155,6 +155,12 @@ pub struct Registers {
     /// Why the access at vadr was refused; set with vadr and never without it.
     /// No program can read it.
     pub cause: Cause,
+    /// Document 02, item 7: whether the machine has doubles. No instruction sets it.
+    pub mode: bool,
+    /// The floating registers, as bit patterns. In the old mode they stand and
+    /// nothing reads or writes them.
+    pub f: u64,
+    pub g: u64,
 }
 
 /// The physical addresses of the two words a walk read.

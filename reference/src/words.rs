@@ -9,6 +9,16 @@ pub fn get(bytes: &[u8], at: u32, size: u32) -> u32 {
 
 /// Stores the low `size` bytes of `value` at `at`, low byte first.
 pub fn put(bytes: &mut [u8], at: u32, size: u32, value: u32) {
+    put_double(bytes, at, size, value.into());
+}
+
+/// A little-endian number of eight bytes at `at`.
+pub fn get_double(bytes: &[u8], at: u32) -> u64 {
+    u64::from(get(bytes, at, 4)) | u64::from(get(bytes, at + 4, 4)) << 32
+}
+
+/// Stores the low `size` bytes of `value`, up to eight, at `at`, low byte first.
+pub fn put_double(bytes: &mut [u8], at: u32, size: u32, value: u64) {
     let at = at as usize;
     bytes[at..at + size as usize].copy_from_slice(&value.to_le_bytes()[..size as usize]);
 }
@@ -49,6 +59,9 @@ mod tests {
         assert_eq!(bytes, [0, 0, 0x44, 0x33, 0x22, 0x11, 0, 0]);
         assert_eq!(get(&bytes, 2, 4), 0x1122_3344);
         assert_eq!(get(&bytes, 3, 2), 0x2233);
+        assert_eq!(get_double(&bytes, 0), 0x1122_3344_0000);
+        put_double(&mut bytes, 0, 8, 0x0102_0304_0506_0708);
+        assert_eq!(bytes, [8, 7, 6, 5, 4, 3, 2, 1]);
     }
 
     #[test]

@@ -59,7 +59,7 @@ fn documented_machine() {
     let read = Restore { console_length: 2, fill: 170, ..restore_of(&machine) };
     let mut refused = read.clone();
     refused.file[80] = 2;
-    let saved = Save { file_length: 4240, fill: 255, ..machine };
+    let saved = Save { file_length: 4260, fill: 255, ..machine };
     check_example(
         "## Example: a machine saved and read\n",
         &[saved.into(), read.into(), refused.into()],
@@ -151,7 +151,7 @@ fn cut_anywhere_and_shorter_by_its_length_anywhere() {
 fn stored_calls_are_small() {
     let stream: Vec<u8> = all().iter().flat_map(|(_, call)| encode(call)).collect();
     let output = printed(&stream);
-    assert!(stream.len() + output.len() < 500_000, "{} and {}", stream.len(), output.len());
+    assert!(stream.len() + output.len() < 520_000, "{} and {}", stream.len(), output.len());
     assert!(output.ends_with(&format!("\nend {}\n", all().len())));
 }
 

@@ -73,6 +73,9 @@ fn every_field_comes_back() {
         key_pending: true,
         timer_pending: false,
         cause: Cause::FrameBeyond,
+        mode: true,
+        f: 0x7ff0_0000_0000_0001,
+        g: u64::MAX,
     };
     let mut runs = Runs::new(8192, regs)
         .bytes(100, &[1, 2, 0, 0, 3])

@@ -99,7 +99,9 @@ fn lengths_that_names_promise() {
 #[test]
 fn the_examples_page() {
     let page = include_str!("../../examples/README.md");
-    let rows = page.lines().filter(|row| row.starts_with("| `"));
+    // A saved machine is no executable: `tests/flow.rs` has its line.
+    let executable = |row: &&str| row.starts_with("| `") && row.contains(".v9` |");
+    let rows = page.lines().filter(executable);
     let told: Vec<(&str, &str)> = rows
         .map(|row| {
             let mut quoted = row.split('`').skip(1).step_by(2);

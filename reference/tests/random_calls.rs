@@ -169,6 +169,8 @@ fn accepted_machines_are_of_every_kind() {
         count(format!("stop {}", regs.stop as u32), true);
         count(format!("cause {}", regs.cause as u32), true);
         count("waiting".to_string(), regs.waiting);
+        count("doubles".to_string(), regs.mode);
+        count("f and g in the old mode".to_string(), !regs.mode && regs.f != 0 && regs.g != 0);
         count("a mark".to_string(), regs.key_pending || regs.timer_pending);
         count("keys taken".to_string(), regs.keys > 0);
         count("no entry".to_string(), entries == 0);
@@ -181,6 +183,6 @@ fn accepted_machines_are_of_every_kind() {
         count("32 pages".to_string(), save.memory.len() == 131_072);
         count("a count of 63 bits".to_string(), regs.count > 1 << 62);
     }
-    assert_eq!(seen.len(), 4 + 8 + 12, "{seen:?}");
+    assert_eq!(seen.len(), 4 + 8 + 14, "{seen:?}");
     assert!(seen.values().all(|count| *count >= 5), "{seen:?}");
 }

@@ -55,7 +55,7 @@ fn accepted_ones_reach_traps_paging_and_a_full_console() {
     // with interrupts masked; a few opcodes may not have faulted. Each cause is
     // delivered, but not by each access, and not before each stop and trap. Paging
     // comes on by SPAG, so that no run is of those that the second bound on walks
-    // speaks of, nor without walks.
+    // speaks of, nor without walks. A load gives the old mode.
     let missing = coverage.missing(Due::Always, &[]);
     let by_place = |kind: &str| {
         ["stopped with", "cause kept"].iter().any(|start| kind.starts_with(start))
@@ -63,7 +63,8 @@ fn accepted_ones_reach_traps_paging_and_a_full_console() {
     };
     let by_spag = |kind: &str| kind == "runs with hits alone" || kind.ends_with("second bound");
     let out = |kind: &str| {
-        kind.ends_with("faulted") || kind.starts_with("key mark") || by_place(kind) || by_spag(kind)
+        let kinds = kind.ends_with("faulted") || kind.starts_with("key mark");
+        kinds || by_place(kind) || by_spag(kind) || kind.contains("doubles")
     };
     let missing: Vec<_> = missing.iter().filter(|kind| !out(kind)).collect();
     assert_eq!(

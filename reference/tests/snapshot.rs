@@ -33,6 +33,9 @@ fn record() -> Record {
         key_pending: false,
         timer_pending: true,
         cause: Cause::NoWriteRight,
+        mode: true,
+        f: 0xfff4_c1c2_c3c4_c5c6,
+        g: 0xd1d2_d3d4_d5d6_d7d8,
     };
     let mut buffer = Buffer { count: 2, ..Buffer::default() };
     buffer.slots[0] = Entry { page: 0xf_abcd, frame: 0, user: true, write: false, origin: None };
@@ -51,15 +54,15 @@ fn memory() -> Vec<u8> {
 
 const CONSOLE: &[u8; 5] = b"Feed!";
 
-/// The file of `record`, byte by byte: 28 bytes of header, 92 of registers, two
+/// The file of `record`, byte by byte: 28 bytes of header, 112 of registers, two
 /// entries of 16, three console bytes, memory.
 #[rustfmt::skip]
 fn file() -> Vec<u8> {
     let mut file = vec![
         // Pages, entries, console bytes.
         1, 0, 0, 0,  2, 0, 0, 0,  3, 0, 0, 0,
-        // Offsets: 28, 28 + 92 = 120, 120 + 32 = 152, 152 + 3 = 155.
-        28, 0, 0, 0,  120, 0, 0, 0,  152, 0, 0, 0,  155, 0, 0, 0,
+        // Offsets: 28, 28 + 112 = 140, 140 + 32 = 172, 172 + 3 = 175.
+        28, 0, 0, 0,  140, 0, 0, 0,  172, 0, 0, 0,  175, 0, 0, 0,
         // a, b, c, sp, usp, ksp, pc, ivec, pdir, vadr, timer, timeout, kbchar.
         0x04, 0x03, 0x02, 0x01,
         0x14, 0x13, 0x12, 0x11,
@@ -80,14 +83,18 @@ fn file() -> Vec<u8> {
         // Stop reason, cause, step count.
         3, 0, 0, 0,  6, 0, 0, 0,
         0x78, 0x77, 0x76, 0x75, 0x74, 0x73, 0x72, 0x01,
+        // Mode, f, g.
+        1, 0, 0, 0,
+        0xc6, 0xc5, 0xc4, 0xc3, 0xc2, 0xc1, 0xf4, 0xff,
+        0xd8, 0xd7, 0xd6, 0xd5, 0xd4, 0xd3, 0xd2, 0xd1,
         // Page, frame, user right, write right.
         0xcd, 0xab, 0x0f, 0,  0, 0, 0, 0,  1, 0, 0, 0,  0, 0, 0, 0,
         7, 0, 0, 0,           0, 0, 0, 0,  0, 0, 0, 0,  1, 0, 0, 0,
         b'F', b'e', b'e',
         0x23,
     ];
-    assert_eq!(file.len(), 155 + 1);
-    file.resize(155 + 4095, 0);
+    assert_eq!(file.len(), 175 + 1);
+    file.resize(175 + 4095, 0);
     file.push(0x77);
     file
 }
@@ -117,27 +124,27 @@ fn with_word(at: usize, value: u32) -> Vec<u8> {
 #[test]
 fn saved_byte_by_byte() {
     let mut lent = vec![0xee; file().len()];
-    assert_eq!(save(&record(), &memory(), CONSOLE, &mut lent), (0, 4251));
+    assert_eq!(save(&record(), &memory(), CONSOLE, &mut lent), (0, 4271));
     assert_eq!(lent, file());
     // Keys taken are not in the file.
     let mut other = record();
     other.regs.keys = 0;
-    let mut again = vec![0; 4251];
-    assert_eq!(save(&other, &memory(), CONSOLE, &mut again), (0, 4251));
+    let mut again = vec![0; 4271];
+    assert_eq!(save(&other, &memory(), CONSOLE, &mut again), (0, 4271));
     assert_eq!(again, file());
 }
 
 #[test]
 fn later_file_bytes_stay() {
-    let mut lent = vec![0xee; 4260];
-    assert_eq!(save(&record(), &memory(), CONSOLE, &mut lent), (0, 4251));
-    assert_eq!(lent[..4251], file());
-    assert_eq!(lent[4251..], [0xee; 9]);
+    let mut lent = vec![0xee; 4280];
+    assert_eq!(save(&record(), &memory(), CONSOLE, &mut lent), (0, 4271));
+    assert_eq!(lent[..4271], file());
+    assert_eq!(lent[4271..], [0xee; 9]);
 }
 
 #[test]
 fn a_file_too_short_to_save_into_stays() {
-    for length in [0, 27, 28, 4250] {
+    for length in [0, 27, 28, 4270] {
         let mut lent = vec![0xee; length];
         assert_eq!(save(&record(), &memory(), CONSOLE, &mut lent), (13, 0));
         assert_eq!(lent, vec![0xee; length]);
@@ -160,7 +167,7 @@ fn read_byte_by_byte() {
 
 #[test]
 fn lengths_that_are_not_exact() {
-    for (length, number) in [(0, 13), (27, 13), (28, 15), (155, 15), (4250, 15), (4252, 15)] {
+    for (length, number) in [(0, 13), (27, 13), (28, 15), (175, 15), (4270, 15), (4272, 15)] {
         let mut other = file();
         other.resize(length, 0);
         assert_eq!(answer(&other), number, "{length}");
@@ -187,7 +194,7 @@ fn counts_unlike_what_is_lent() {
 
 #[test]
 fn offsets_that_do_not_follow() {
-    for (at, right) in [(12, 28), (16, 120), (20, 152), (24, 155u32)] {
+    for (at, right) in [(12, 28), (16, 140), (20, 172), (24, 175u32)] {
         for other in [0, right - 1, right + 1, right + 4, right + 0x1_0000, u32::MAX] {
             assert_eq!(answer(&with_word(at, other)), 15, "offset at {at}: {other}");
         }
@@ -209,6 +216,9 @@ fn registers_that_are_refused() {
         (28 + 80, 8, "cause"),
         (28 + 80, u32::MAX, "cause"),
         (28 + 88, 0x8000_0000, "step count"),
+        (28 + 92, 2, "mode"),
+        (28 + 92, 256, "mode"),
+        (28 + 92, u32::MAX, "mode"),
     ];
     for (at, value, name) in words {
         assert_eq!(answer(&with_word(at, value)), 16, "{name} {value}");
@@ -223,13 +233,13 @@ fn registers_that_are_refused() {
 #[test]
 fn entries_that_are_refused() {
     let words = [
-        (120, 1 << 20, "page 2^20"),
-        (124, 1, "frame M/4,096"),
-        (128, 2, "user right"),
-        (132, 2, "write right"),
-        (136, 0xf_abcd, "a page twice"),
-        (136, u32::MAX, "page 2^32 - 1"),
-        (148, u32::MAX, "write right"),
+        (140, 1 << 20, "page 2^20"),
+        (144, 1, "frame M/4,096"),
+        (148, 2, "user right"),
+        (152, 2, "write right"),
+        (156, 0xf_abcd, "a page twice"),
+        (156, u32::MAX, "page 2^32 - 1"),
+        (168, u32::MAX, "write right"),
     ];
     for (at, value, name) in words {
         assert_eq!(answer(&with_word(at, value)), 16, "{name}");
@@ -249,7 +259,10 @@ fn what_nothing_refuses() {
         (28 + 80, 0, "vadr without a cause"),
         (28 + 80, 7, "cause 7"),
         (28 + 88, 0x7fff_ffff, "step count"),
-        (120, (1 << 20) - 1, "page 2^20 - 1"),
+        (28 + 92, 0, "f and g in the old mode"),
+        (28 + 100, 0x7ff0_0000, "a signalling NaN in f"),
+        (28 + 108, 0xffff_ffff, "a NaN in g"),
+        (140, (1 << 20) - 1, "page 2^20 - 1"),
     ];
     for (at, value, name) in words {
         assert_eq!(answer(&with_word(at, value)), 0, "{name}");
@@ -299,15 +312,15 @@ fn lower_numbers_win_on_saving() {
     assert_eq!(save_answer(&bad, &lent, None), 5);
     bad.regs.written = 5;
     assert_eq!(save_answer(&bad, &lent, None), 13);
-    assert_eq!(save_answer(&bad, &Lent { file: 4252, ..lent }, None), 13);
-    assert_eq!(save_answer(&bad, &Lent { file: 4253, ..lent }, None), 0);
+    assert_eq!(save_answer(&bad, &Lent { file: 4272, ..lent }, None), 13);
+    assert_eq!(save_answer(&bad, &Lent { file: 4273, ..lent }, None), 0);
 }
 
 /// 15 comes where memory begins at 2^32 or later, in a file that is as long.
 #[test]
 fn an_offset_of_two_to_32() {
     let mut large = record();
-    large.regs.written = (1 << 32) - 152 - 1;
+    large.regs.written = (1 << 32) - 172 - 1;
     let lent = Lent { memory: 4096, console: 1 << 33, file: 1 << 34 };
     assert_eq!(save_answer(&large, &lent, None), 0);
     large.regs.written += 1;
@@ -316,7 +329,7 @@ fn an_offset_of_two_to_32() {
     assert_eq!(save_answer(&large, &short, None), 13);
     // On reading no word can hold such an offset.
     let lent = Lent { console: 1 << 33, ..lent };
-    for (bytes, memory_at) in [(u32::MAX - 152, u32::MAX), (u32::MAX - 151, 0)] {
+    for (bytes, memory_at) in [(u32::MAX - 172, u32::MAX), (u32::MAX - 171, 0)] {
         let mut file = with_word(8, bytes);
         file[24..28].copy_from_slice(&memory_at.to_le_bytes());
         assert_eq!(read_answer(&file, &lent, None), 15);

@@ -179,7 +179,7 @@ fn printed(words: &[&str], input: &[u8]) -> (Vec<u8>, Vec<u8>) {
 fn the_commands_save_and_resume() {
     let endless = include_bytes!("../../examples/endless.v9");
     let (machine, error) = printed(&["save"], endless);
-    assert_eq!((machine.len(), error.len()), (120 + 32_768, 0));
+    assert_eq!((machine.len(), error.len()), (140 + 32_768, 0));
     let (line, _) = printed(&["resume"], &machine);
     assert_eq!(line, b"stop 0 steps 200000 a 0 b 0 c 0 sp 32768 pc 0\n");
     assert_eq!(printed(&["line", "--budget", "200000"], endless).0, line);

@@ -14,7 +14,7 @@ impl Machine {
         self.sp = self.sp.wrapping_add(8);
         Ok(v)
     }
-    fn jump(&mut self, t: u32) {
+    pub(super) fn jump(&mut self, t: u32) {
         self.pc = t & !3;
     }
     fn alu(&mut self, op: u8, y: u32) -> Result<(), Fault> {
@@ -301,6 +301,7 @@ impl Machine {
                     _ => self.waiting = self.iena,
                 }
             }
+            _ if self.mode => return self.execute_float(ir),
             _ => return Err(Fault::Code(4)),
         }
         Ok(())

@@ -1,7 +1,8 @@
-//! A plain, idiomatic interpreter of the rules of document 01 with items 1, 4 and 6 of document 02: `&mut self` methods, a match on the opcode byte,
+//! A plain, idiomatic interpreter of the rules of document 01 with items 1, 4, 6 and 7 of document 02: `&mut self` methods, a match on the opcode byte,
 //! `Result` and `?`, slices with bounds checks, one byte at a time for block opcodes.
 
 mod execute;
+mod float;
 mod load;
 mod refusal;
 mod translate;
@@ -59,6 +60,10 @@ pub struct Machine {
     /// Interrupts that await delivery: document 02 calls them marks.
     pub key_pending: bool,
     pub timer_pending: bool,
+    /// Whether there are doubles: document 02, item 7.
+    pub mode: bool,
+    pub f: u64,
+    pub g: u64,
     pub taken: usize,
     pub written: usize,
     pub held: usize,
@@ -103,6 +108,9 @@ impl Machine {
             count: 0,
             key_pending: false,
             timer_pending: false,
+            mode: false,
+            f: 0,
+            g: 0,
             taken: 0,
             written: 0,
             held: 0,

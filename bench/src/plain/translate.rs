@@ -109,6 +109,11 @@ impl Machine {
         Ok(self.word(at & !3))
     }
 
+    pub(super) fn read64(&mut self, va: u32) -> Result<u64, Fault> {
+        let at = self.translate(va, Access::Read, self.user)? & !7;
+        Ok(u64::from_le_bytes(self.memory[at..at + 8].try_into().unwrap()))
+    }
+
     pub(super) fn read16(&mut self, va: u32) -> Result<u16, Fault> {
         let at = self.translate(va, Access::Read, self.user)? & !1;
         Ok(u16::from_le_bytes(self.memory[at..at + 2].try_into().unwrap()))
@@ -122,6 +127,12 @@ impl Machine {
     pub(super) fn write32(&mut self, va: u32, value: u32) -> Result<(), Fault> {
         let at = self.translate(va, Access::Write, self.user)?;
         self.put_word(at & !3, value);
+        Ok(())
+    }
+
+    pub(super) fn write64(&mut self, va: u32, value: u64) -> Result<(), Fault> {
+        let at = self.translate(va, Access::Write, self.user)? & !7;
+        self.memory[at..at + 8].copy_from_slice(&value.to_le_bytes());
         Ok(())
     }
 

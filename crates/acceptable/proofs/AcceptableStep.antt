@@ -18,14 +18,15 @@ use Rattle.paging.specs.Walk.{bit}
 use Rattle.word.proofs.BoolLaws.{both}
 use Rattle.rules.specs.declared.Clock.{Clock}
 use Rattle.rules.specs.declared.Cpu.{Cpu}
+use Rattle.rules.specs.declared.Floats.{Floats}
 use Rattle.rules.specs.declared.Interrupt.{Interrupt}
 use Rattle.rules.specs.declared.Key.{Key}
 use Rattle.rules.specs.declared.Next.{Next}
 use Rattle.rules.specs.declared.Pending.{Pending}
 use Rattle.rules.specs.declared.Regs.{Regs}
-use Rattle.rules.specs.Record.{setPc, setSp, withRegs, withSystem, withIena, withClock, withTimeout, withWritten, putPending}
+use Rattle.rules.specs.Record.{setPc, setSp, withRegs, withSystem, withIena, withClock, withTimeout, withWritten, withFloats, putPending}
 use Rattle.rules.specs.Tree.{Reply, got, denied, Tree, interpret}
-use Rattle.rules.specs.Outcome.{fine}
+use Rattle.rules.specs.Outcome.{fine, floated}
 use Rattle.rules.specs.Execute.{moved}
 use Rattle.rules.specs.Trap.{Effect, none as nothing, setSpace, deliver, print, Final, ended, entered, framed, deliverTree}
 use Rattle.rules.specs.System.{computed, backTo, returned, appended, directed}
@@ -35,7 +36,8 @@ use Rattle.rules.proofs.Leaves.{Leaves, at-leaf, at-ask, leaf-at}
 use Rattle.rules.proofs.StepTree.{Shapes, every-step}
 use Rattle.rules.proofs.PendingLaws.{timed-pending}
 use Rattle.rules.proofs.AcceptableRecord.{Tested, Passes, Directory, Acceptable}
-use Rattle.acceptable.proofs.AlignedInstruction.{OutAligned, instruction-aligned}
+use Rattle.acceptable.proofs.AlignedInstruction.{OutAligned}
+use Rattle.acceptable.proofs.AlignedFloating.{executed-aligned}
 
 -- the end of a step from the address space s
 pub record FinalAcceptable (size keys consoleSize : ℕ) (s : Space) (f : Final) : Type 0 where
@@ -144,6 +146,12 @@ module _ (size keys consoleSize : ℕ) (s : Space) (d : Directory size (s .pdir)
   unfolding spaceAfter
   fine-acceptable c r vs g h = record { passes = omega (arith, g .passes); directory = d }
 
+  -- a floating instruction's
+  floated-acceptable : (c : Cpu) (r : Regs) (v : Floats) (vs : List ℕ) → Acceptable size keys consoleSize c → OutAligned (floated r v vs)
+      → FinalAcceptable size keys consoleSize s (record { cpu = withFloats v (withRegs r c); values = vs; effect = nothing })
+  unfolding spaceAfter
+  floated-acceptable c r v vs g h = record { passes = omega (arith, g .passes); directory = d }
+
 -- ---- rules 1 to 3
 
 -- a key is taken only if there is one
@@ -166,8 +174,9 @@ unfolding stepTree
 step-acceptable {size} {keys} {consoleSize} k c more g =
     let t = ticked-acceptable k c more g in
     every-step OutAligned (acceptable size keys consoleSize (c .space) (g .directory)) (fine-acceptable size keys consoleSize (c .space) (g .directory))
-    (dueOf (ticked k c)) (ticked k c) t (λ i e. interrupt-acceptable size keys consoleSize (c .space) (g .directory) i (ticked k c) (t .passes))
-    (instruction-aligned (ticked k c .regs) (omega (arith, t .passes)))
+    (floated-acceptable size keys consoleSize (c .space) (g .directory)) (dueOf (ticked k c)) (ticked k c) t
+    (λ i e. interrupt-acceptable size keys consoleSize (c .space) (g .directory) i (ticked k c) (t .passes))
+    (executed-aligned (ticked k c) (omega (arith, t .passes)))
 
 -- ---- as a step of a machine
 

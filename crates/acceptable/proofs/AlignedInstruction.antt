@@ -20,7 +20,7 @@ use Rattle.decode.specs.declared.Instr.the-variants.{Store, LoadImm, LoadHigh, 
 use Rattle.rules.specs.declared.Regs.{Regs}
 use Rattle.rules.specs.Record.{setPc, setSp}
 use Rattle.rules.specs.Tree.{Reply, got, denied, Tree}
-use Rattle.rules.specs.Outcome.{Out, fine, unfetched, trap, refused, system, orRefused}
+use Rattle.rules.specs.Outcome.{Out, fine, unfetched, trap, refused, system, floated, undecoded, orRefused}
 use Rattle.rules.specs.Arithmetic.{divides, aluTree, aluFrom, holds}
 use Rattle.rules.specs.Transfer.{regOf, putReg, pushTree}
 use Rattle.rules.specs.Jump.{target, branched, indexed}
@@ -45,15 +45,17 @@ OutAligned (unfetched f) = Unit
 OutAligned (trap code) = Unit
 OutAligned (refused f) = Unit
 OutAligned (system op) = Unit
+OutAligned (floated r v vs) = RegsAligned r
+OutAligned (undecoded w) = Unit
 
 -- every leaf of an instruction's tree
-abbrev AllAligned : Tree Out → Type 0
+abbrev pub AllAligned : Tree Out → Type 0
 AllAligned t = Leaves OutAligned t
 
 -- ---- the parts of instructions
 
 -- what follows a reply
-reply-aligned : {k : ℕ → Tree Out} → ((v : ℕ) → AllAligned (k v)) → (x : Reply) → AllAligned (orRefused k x)
+pub reply-aligned : {k : ℕ → Tree Out} → ((v : ℕ) → AllAligned (k v)) → (x : Reply) → AllAligned (orRefused k x)
 reply-aligned h (got v) = h v
 reply-aligned h (denied f) = at-leaf tt
 
@@ -64,7 +66,7 @@ put-aligned reg.B x r h = h
 put-aligned reg.C x r h = h
 
 -- "drop their low three bits"
-sp-aligned-set : (x : ℕ) (r : Regs) → RegsAligned r → RegsAligned (setSp x r)
+pub sp-aligned-set : (x : ℕ) (r : Regs) → RegsAligned r → RegsAligned (setSp x r)
 sp-aligned-set x r h = record { pc-aligned = h .pc-aligned; sp-aligned = sp-set x r }
 
 -- "their low two"
@@ -72,7 +74,7 @@ pc-aligned-set : (x : ℕ) (r : Regs) → RegsAligned r → RegsAligned (setPc x
 pc-aligned-set x r h = record { pc-aligned = pc-set x r; sp-aligned = h .sp-aligned }
 
 -- a branch is taken or not
-branch-aligned : (taken : Bool) (imm : ℕ) (r : Regs) → RegsAligned r → RegsAligned (branched taken imm r)
+pub branch-aligned : (taken : Bool) (imm : ℕ) (r : Regs) → RegsAligned r → RegsAligned (branched taken imm r)
 branch-aligned true imm r h = pc-aligned-set (target imm r) r h
 branch-aligned false imm r h = h
 
@@ -120,36 +122,36 @@ byte-aligned Mset r h = at-ask (reply-aligned (λ x. at-leaf (again-aligned r h)
 
 -- ---- every instruction, with pc moved on
 
-execute-aligned : (i : Instr) (r : Regs) → RegsAligned r → AllAligned (executeTree i r)
+execute-aligned : (w : ℕ) (i : Instr) (r : Regs) → RegsAligned r → AllAligned (executeTree w i r)
 unfolding executeTree
-execute-aligned Illegal r h = at-leaf tt
-execute-aligned Nop r h = at-leaf h
-execute-aligned Trap r h = at-leaf tt
-execute-aligned Cyc r h = at-leaf h
-execute-aligned Jsra r h = push-aligned _ _ r (pc-aligned-set _ r h)
-execute-aligned Lba r h = at-leaf h
-execute-aligned Lca r h = at-leaf h
-execute-aligned (Ent i) r h = at-leaf (sp-aligned-set (sum (r .sp) i) r h)
-execute-aligned (Lev i) r h = at-ask (reply-aligned (λ v. at-leaf (pc-aligned-set v (setSp (sum (r .sp) (sum i 8)) r) (sp-aligned-set (sum (r .sp) (sum i 8)) r h))))
-execute-aligned (Jmp i) r h = at-leaf (pc-aligned-set (target i r) r h)
-execute-aligned (Jmpi i) r h = at-leaf (pc-aligned-set (indexed i r) r h)
-execute-aligned (Jsr i) r h = push-aligned _ _ r (pc-aligned-set _ r h)
-execute-aligned (Lea i) r h = at-leaf h
-execute-aligned (Leag i) r h = at-leaf h
-execute-aligned (Block op) r h = leaves-if (eqb (r .c) 0) (at-leaf (end-aligned op r h)) (byte-aligned op r h)
-execute-aligned (Load d b f i) r h = at-ask (reply-aligned (λ v. at-leaf (put-aligned d _ r h)))
-execute-aligned (Store b s i) r h = at-ask (reply-aligned (λ x. at-leaf h))
-execute-aligned (LoadImm d i) r h = at-leaf (put-aligned d i r h)
-execute-aligned (LoadHigh d f) r h = at-leaf (put-aligned d _ r h)
-execute-aligned (Alu op x) r h = from-aligned op x r h
-execute-aligned (Compare t) r h = at-leaf h
-execute-aligned (Bz i) r h = at-leaf (branch-aligned (eqb (r .a) 0) i r h)
-execute-aligned (Bnz i) r h = at-leaf (branch-aligned (not (eqb (r .a) 0)) i r h)
-execute-aligned (Branch t i) r h = at-leaf (branch-aligned (holds t (r .a) (r .b)) i r h)
-execute-aligned (Push d) r h = push-aligned (regOf d r) r r h
-execute-aligned (Pshi i) r h = push-aligned i r r h
-execute-aligned (Pop d) r h = at-ask (reply-aligned (λ v. at-leaf (sp-aligned-set (sum (r .sp) 8) (putReg d v r) (put-aligned d v r h))))
-execute-aligned (Sys op) r h = at-leaf tt
+execute-aligned w Illegal r h = at-leaf tt
+execute-aligned w Nop r h = at-leaf h
+execute-aligned w Trap r h = at-leaf tt
+execute-aligned w Cyc r h = at-leaf h
+execute-aligned w Jsra r h = push-aligned _ _ r (pc-aligned-set _ r h)
+execute-aligned w Lba r h = at-leaf h
+execute-aligned w Lca r h = at-leaf h
+execute-aligned w (Ent i) r h = at-leaf (sp-aligned-set (sum (r .sp) i) r h)
+execute-aligned w (Lev i) r h = at-ask (reply-aligned (λ v. at-leaf (pc-aligned-set v (setSp (sum (r .sp) (sum i 8)) r) (sp-aligned-set (sum (r .sp) (sum i 8)) r h))))
+execute-aligned w (Jmp i) r h = at-leaf (pc-aligned-set (target i r) r h)
+execute-aligned w (Jmpi i) r h = at-leaf (pc-aligned-set (indexed i r) r h)
+execute-aligned w (Jsr i) r h = push-aligned _ _ r (pc-aligned-set _ r h)
+execute-aligned w (Lea i) r h = at-leaf h
+execute-aligned w (Leag i) r h = at-leaf h
+execute-aligned w (Block op) r h = leaves-if (eqb (r .c) 0) (at-leaf (end-aligned op r h)) (byte-aligned op r h)
+execute-aligned w (Load d b f i) r h = at-ask (reply-aligned (λ v. at-leaf (put-aligned d _ r h)))
+execute-aligned w (Store b s i) r h = at-ask (reply-aligned (λ x. at-leaf h))
+execute-aligned w (LoadImm d i) r h = at-leaf (put-aligned d i r h)
+execute-aligned w (LoadHigh d f) r h = at-leaf (put-aligned d _ r h)
+execute-aligned w (Alu op x) r h = from-aligned op x r h
+execute-aligned w (Compare t) r h = at-leaf h
+execute-aligned w (Bz i) r h = at-leaf (branch-aligned (eqb (r .a) 0) i r h)
+execute-aligned w (Bnz i) r h = at-leaf (branch-aligned (not (eqb (r .a) 0)) i r h)
+execute-aligned w (Branch t i) r h = at-leaf (branch-aligned (holds t (r .a) (r .b)) i r h)
+execute-aligned w (Push d) r h = push-aligned (regOf d r) r r h
+execute-aligned w (Pshi i) r h = push-aligned i r r h
+execute-aligned w (Pop d) r h = at-ask (reply-aligned (λ v. at-leaf (sp-aligned-set (sum (r .sp) 8) (putReg d v r) (put-aligned d v r h))))
+execute-aligned w (Sys op) r h = at-leaf tt
 
 -- "pc moves 4 on"
 pub moved-aligned : (r : Regs) → RegsAligned r → RegsAligned (moved r)
@@ -161,5 +163,5 @@ unfolding instructionTree
 instruction-aligned r h = at-ask go
   where
     go : (x : Reply) → AllAligned (fetched r x)
-    go (got w) = execute-aligned (decodeOf w) (moved r) (moved-aligned r h)
+    go (got w) = execute-aligned w (decodeOf w) (moved r) (moved-aligned r h)
     go (denied f) = at-leaf tt

@@ -1,3 +1,4 @@
 pub mod AlignedInstruction
+pub mod AlignedFloating
 pub mod AcceptableStep
 pub mod AcceptableRun

@@ -2,7 +2,7 @@
 ghost use Prim.Native.Nat.{_≤_, _<_, _^_};
 
 // How many numbers the record has, and the place after them, where the slots begin.
-pub const NUMBERS: usize = 22;
+pub const NUMBERS: usize = 25;
 
 pub const SLOTS: usize = 60 + 8 * NUMBERS;
 

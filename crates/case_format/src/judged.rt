@@ -29,7 +29,7 @@ pub fn formed(holds: bool) -> Judged {
     Judged::Malformed
 }
 
-// The largest value of the i-th number of the record: words, flags and marks, the stop reason, the cause, the step count.
+// The largest value of the i-th number of the record: words, flags and marks, the stop reason, the cause, the step count, the mode, f and g.
 fn most(i: usize) -> u64 {
     if i < 13 {
         return 0xFFFF_FFFF;
@@ -42,6 +42,9 @@ fn most(i: usize) -> u64 {
     }
     if i < 21 {
         return 7;
+    }
+    if i == 22 {
+        return 1;
     }
     0xFFFF_FFFF_FFFF_FFFF
 }

@@ -19,7 +19,7 @@ use Rattle.mmu.specs.Good.{Good}
 use Rattle.mmu.specs.Translates.{Translates}
 use Rattle.rules.specs.declared.Regs.{Regs}
 use Rattle.rules.specs.Tree.{access, Reply, got, denied, Tree, ask, done, Grant, grant, requested, replyTo, storeAll, interpret}
-use Rattle.rules.specs.Outcome.{Out, fine, unfetched, trap, refused, system, orRefused, reading, writing}
+use Rattle.rules.specs.Outcome.{Out, fine, unfetched, trap, refused, system, undecoded, orRefused, reading, writing}
 use Rattle.contracts.specs.declared.Done.{Done}
 use Rattle.contracts.specs.declared.End.the-variants as end
 use Rattle.contracts.specs.Contract.{ok, bad, faultOf, refusedBy, madeBy, made, Executes}
@@ -58,6 +58,11 @@ module _ {s : Space} {user : Bool} {gs : List Grant} {m l : List ℕ} (g : Good 
   pub executes-system : {r : Regs} {op : SysOp} → d ≡ bad r (end.System op) → Executes (done (system op)) s user gs m l d m l
   unfolding interpret madeBy
   executes-system h = record { same = rw h; good = g }
+
+  -- a word that document 01's table has no row for
+  pub executes-undecoded : {r : Regs} {w : ℕ} → d ≡ bad r (end.Undecoded w) → Executes (done (undecoded w)) s user gs m l d m l
+  unfolding interpret madeBy
+  executes-undecoded h = record { same = rw h; good = g }
 
   -- a store through the latest granted write
   pub executes-stored : {r : Regs} {p n v : ℕ} {m′ : List ℕ} → d ≡ ok r → m′ ≡ storeN n m p v

@@ -1,3 +1,4 @@
 pub mod Trees
 pub mod Laws
+pub mod FloatLaws
 pub mod Steps

@@ -1,4 +1,4 @@
-// Document 01, "One step", the order of faults: how an instruction ends, in code.
+// Document 01, "One step", the order of faults, and document 02, item 7: how an instruction ends, in code.
 ghost use mathlib.Core.Path.{_≡_};
 ghost use Rattle.rules.specs.Record.{withA, withB, withC, withSp, withPc};
 ghost use Rattle.contracts.specs.Contract.{ok, bad, faultOf, refusedBy};
@@ -6,6 +6,7 @@ use decode::SysOp;
 use paging::Answer;
 use paging::Cause;
 use paging::Fault;
+use rules::Floats;
 use rules::Regs;
 
 pub enum End {
@@ -18,11 +19,20 @@ pub enum End {
     Refused(Fault),
     // A privileged instruction, handled over the whole record.
     System(SysOp),
+    // A word that document 01's table has no row for.
+    Undecoded(u32),
 }
 
 // What an instruction leaves: how it ended, and where it ended well the registers.
 pub struct Done {
     pub regs: Regs,
+    pub end: End,
+}
+
+// What a floating instruction leaves, with f and g.
+pub struct FloatDone {
+    pub regs: Regs,
+    pub floats: Floats,
     pub end: End,
 }
 

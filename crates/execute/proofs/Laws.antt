@@ -58,6 +58,6 @@ module _ {s : Space} {user : Bool} {gs : List Grant} (r : Regs) {m l : List ℕ}
 
   -- a fetch that is granted: its word is decoded and executed
   pub executes-fetched : {p w : ℕ} {i : Instr} {m″ l″ : List ℕ} → a ≡ At p → w ≡ loadN 4 m′ p → i ≡ decodeOf w
-      → Executes (executeTree i (moved r)) s user gs m′ l′ d m″ l″ → Executes (instructionTree r) s user gs m l d m″ l″
+      → Executes (executeTree w i (moved r)) s user gs m′ l′ d m″ l″ → Executes (instructionTree r) s user gs m l d m″ l″
   unfolding instructionTree isWrite
   executes-fetched e f q h = executes-got t (fetched r) refl e f (rw (← q) h)

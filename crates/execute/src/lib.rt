@@ -60,10 +60,11 @@ fn compute_stack(
 
 // ---- every instruction
 
-// One instruction; pc has moved on.
+// One instruction; pc has moved on. w is the word that it was decoded from.
 fn execute(
     r: Regs,
     i: Instr,
+    w: u32,
     user: bool,
     space: Space,
     mem: &mut [u8],
@@ -71,10 +72,10 @@ fn execute(
     hint: &mut [u8; 256],
 ) -> Done
     requires { ⌜ Good (length (now mem)) (space .pdir) (now tlb) ⌝ }
-    ensures { λ d. ⌜ Executes (executeTree i r) space user [] (now (mem .entry)) (now (tlb .entry)) d (now (mem .exit)) (now (tlb .exit)) ⌝ }
+    ensures { λ d. ⌜ Executes (executeTree w i r) space user [] (now (mem .entry)) (now (tlb .entry)) d (now (mem .exit)) (now (tlb .exit)) ⌝ }
 {
     match i {
-        Instr::Illegal => contracts::ended(r, End::Trap(paging::FINST)),
+        Instr::Illegal => contracts::ended(r, End::Undecoded(w)),
         Instr::Nop => contracts::fine(r),
         Instr::Trap => contracts::ended(r, End::Trap(paging::FSYS)),
         Instr::Cyc => contracts::fine(operations::put(r, Reg::A, (r.count % 0x1_0000_0000) as u32)),
@@ -168,8 +169,9 @@ pub fn instruction(
     let Answer::At(q) = p else {
         return contracts::ended(r, End::Unfetched(contracts::fault_of(p)));
     };
-    let i = decode::decode(memory::load4(mem, q));
+    let w = memory::load4(mem, q);
+    let i = decode::decode(w);
     let mut n = contracts::regs(r, r.a, r.b, r.c, r.sp, word::sum(r.pc, 4));
     n.count = r.count + 1;
-    execute(n, i, user, space, mem, tlb, hint)
+    execute(n, i, w, user, space, mem, tlb, hint)
 }

@@ -10,8 +10,10 @@ use paging::Entry;
 use paging::Space;
 use rules::Clock;
 use rules::Cpu;
+use rules::Floats;
 use rules::LastCause;
 use rules::Machine;
+use rules::Model;
 use rules::Pending;
 use rules::Regs;
 use rules::Stop;
@@ -62,6 +64,8 @@ pub fn cpu_with(sp: u32, pc: u32, kbchar: u32) -> Cpu
         cause: LastCause::None,
         stop: Stop::Running,
         written: 0,
+        model: Model { doubles: false },
+        floats: Floats { f: 0, g: 0 },
     }
 }
 

@@ -34,14 +34,15 @@ use Rattle.machine.proofs.SettledLaws.{settled-ok, settled-count, by-en
 use Rattle.machine.proofs.QuietStep.{run-on, step-quiet}
 
 -- an end other than Ok
-pub not-ok : (e : End) → OneOf (1 ∷ 2 ∷ 3 ∷ 4 ∷ []) (Declared.tagOf End·type e) → e ≡ Ok → ⊥
-not-ok e h q = none (subst (λ (x : End). OneOf (1 ∷ 2 ∷ 3 ∷ 4 ∷ []) (Declared.tagOf End·type x)) q h)
+pub not-ok : (e : End) → OneOf (1 ∷ 2 ∷ 3 ∷ 4 ∷ 5 ∷ []) (Declared.tagOf End·type e) → e ≡ Ok → ⊥
+not-ok e h q = none (subst (λ (x : End). OneOf (1 ∷ 2 ∷ 3 ∷ 4 ∷ 5 ∷ []) (Declared.tagOf End·type x)) q h)
   where
-    none : OneOf (1 ∷ 2 ∷ 3 ∷ 4 ∷ []) 0 → ⊥
+    none : OneOf (1 ∷ 2 ∷ 3 ∷ 4 ∷ 5 ∷ []) 0 → ⊥
     none (inl p) = omega (arith, p)
     none (inr (inl p)) = omega (arith, p)
     none (inr (inr (inl p))) = omega (arith, p)
-    none (inr (inr (inr p))) = omega (arith, p)
+    none (inr (inr (inr (inl p)))) = omega (arith, p)
+    none (inr (inr (inr (inr p)))) = omega (arith, p)
 
 module _ (c : Cpu) (limit : ℕ) (m l : List ℕ) where
   -- no step is made yet
@@ -105,6 +106,8 @@ module _ (c : Cpu) (limit : ℕ) (m l : List ℕ) where
       instructions-early n = record {
         good = h .good;
         later = b .later;
+        start = λ q. b .none q .0;
+        idle = λ q. absurd (omega (arith, q, below, b .later));
         first = λ q x con.
             ap (λ (o : Out). settled (length m) x con (result o m″ (keptIn l″))) (by-end r (d .regs) (d .end) n)
             ∙ alone (omega (arith, q, below, b .later)) x con;
@@ -125,6 +128,8 @@ module _ (c : Cpu) (limit : ℕ) (m l : List ℕ) where
         record {
           good = b .good;
           later = b .later;
+          start = λ q. b .none q .0;
+          idle = λ q. b .none (e ∙ q) .1;
           first = λ q x con. b .first (omega (arith, e, q)) x con;
           all = λ _. (e, λ ks n con runs quiet. b .same ks n con runs quiet ∙ ap (λ (i : ℕ). endOf ks i (stateOf (afterQuiet c r) m′ con l′)) (omega (arith, e)));
           early = λ n. absurd (n refl);

@@ -1,7 +1,11 @@
+pub mod FreshFloating
 pub mod Settling
 pub mod SettleLaw
 pub mod SettledLaws
 pub mod QuietStep
+pub mod QuietAgain
 pub mod InstructionLaws
+pub mod BurstLaws
+pub mod BurstSteps
 pub mod StepLaws
 pub mod AdvanceLaws

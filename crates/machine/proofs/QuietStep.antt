@@ -19,7 +19,7 @@ use Rattle.rules.specs.Tree.{Tree, bind, interpret}
 use Rattle.rules.specs.Execute.{instructionTree}
 use Rattle.rules.specs.Trap.{Final, ended}
 use Rattle.rules.specs.Clock.{ticked}
-use Rattle.rules.specs.Step.{State, Stepped, settleTree, dueTree, stepTree, finished, steppedBy, stepBy, step}
+use Rattle.rules.specs.Step.{State, Stepped, executedTree, settleTree, dueTree, stepTree, finished, steppedBy, stepBy, step}
 use Rattle.rules.specs.Run.{stepsOf, lastOf}
 use Rattle.contracts.specs.declared.Done.{Done}
 use Rattle.contracts.specs.Contract.{outOf, stateOf, Executes, endOf}
@@ -47,11 +47,11 @@ module _ (k : Next) (c : Cpu) (limit : ℕ) (q : Quiet k c limit) (r : Regs) (la
   -- such a step
   pub step-quiet : {m l m′ l′ : List ℕ} {d : Done} → Executes (instructionTree (raiseCount r)) (c .space) (c .system .user) [] m l d m′ l′
       → stepBy translator k (stateOf (afterQuiet c r) m con l) .state ≡ settled (length m) (afterQuiet c (raiseCount r)) con (result (outOf d) m′ (keptIn l′))
-  unfolding stepBy stepTree steppedBy dueTree at
+  unfolding stepBy stepTree steppedBy dueTree executedTree at
   step-quiet {m} {l} {m′} {l′} {d} h =
       let x = afterQuiet c (raiseCount r) in
       ap (λ (o : Due). at m l (dueTree o (length m) (length con) (ticked k (afterQuiet c r)))) (quiet-due k c limit q r later below)
       ∙ ap (λ (y : Cpu). at m l (dueTree Nothing (length m) (length con) y)) (quiet-ticked k c limit q r later below)
-      ∙ ap (λ (w : Bool). at m l (if w then ended x else bind (instructionTree (raiseCount r)) (settleTree (length m) (length con) x))) (q .awake)
+      ∙ ap (λ (w : Bool). at m l (if w then ended x else bind (executedTree x) (settleTree (length m) (length con) x))) (q .awake)
       ∙ settled-law (length m) x con (instructionTree (raiseCount r)) m (keptIn l)
       ∙ ap (settled (length m) x con) (sym (h .same))

@@ -2,10 +2,11 @@
 use Prim.Native.Nat.{ℕ}
 use mathlib.Core.List.{List, []}
 use mathlib.Core.Path.{_≡_, refl, ap, _∙_}
+use Rattle.paging.specs.TrapCode.{FINST}
 use Rattle.mmu.specs.Translates.{Kept, Result, translator}
 use Rattle.rules.specs.declared.Cpu.{Cpu}
 use Rattle.rules.specs.Tree.{Tree, bind, Grant, storeAll, interpret}
-use Rattle.rules.specs.Outcome.{Out, fine, unfetched, trap, refused, system}
+use Rattle.rules.specs.Outcome.{Out, fine, unfetched, trap, refused, system, floated, undecoded}
 use Rattle.rules.specs.Trap.{nextPc}
 use Rattle.rules.specs.Step.{State, finished, settleTree}
 use Rattle.contracts.specs.Contract.{madeBy, made}
@@ -25,6 +26,8 @@ module _ (size consoleSize : ℕ) (c : Cpu) (con : List ℕ) where
   settle-by (trap code) gs m es = every-trap (fresh-shapes c con size consoleSize) c code (nextPc c) tt .fresh m es gs
   settle-by (refused f) gs m es = every-fault (fresh-shapes c con size consoleSize) c f (nextPc c) tt .fresh m es gs
   settle-by (system op) gs m es = every-system (fresh-shapes c con size consoleSize) op c tt .fresh m es gs
+  settle-by (floated r v vs) gs m es = refl
+  settle-by (undecoded w) gs m es = every-trap (fresh-shapes c con size consoleSize) c FINST (nextPc c) tt .fresh m es gs
 
   -- an instruction's tree and the rest, from any memory and buffer
   pub settle-law : (t : Tree Out) (m : List ℕ) (es : Kept)

@@ -1,8 +1,10 @@
--- Document 01, "One step": instructions one after another, in steps in which the clock only counts.
+-- Document 01, "One step": instructions of its table one after another, in steps in which the clock only counts.
 use Prim.Native.Nat.{ℕ, _+_, _-_, _≤_, _<_}
+use mathlib.Core.Bool.{Bool}
 use mathlib.Core.Path.{_≡_}
 use mathlib.Core.List.{List, []}
 use lib.ListN.{length}
+use Rattle.paging.specs.declared.Space.{Space}
 use Rattle.mmu.specs.Good.{Good}
 use Rattle.mmu.specs.Translates.{Result, result, keptIn, translator}
 use Rattle.rules.specs.declared.Regs.{Regs}
@@ -32,6 +34,9 @@ instructionFrom c m l = made (interpret translator (c .space) (c .system .user) 
 pub record InstructionsEnd (c : Cpu) (limit : ℕ) (m l : List ℕ) (b : Done) (m′ l′ : List ℕ) : Type 0 where
   pub good : Good (length m′) (c .space .pdir) l′
   pub later : c .regs .count ≤ b .regs .count
+  -- no step was made: as it was, and at the limit with no access
+  pub start : b .regs .count ≡ c .regs .count → b .regs ≡ c .regs
+  pub idle : limit ≡ c .regs .count → (m′ ≡ m) × (l′ ≡ l)
   -- a limit of one step: it is that step's instruction, whatever is due
   pub first : limit ≡ c .regs .count + 1 → (x : Cpu) (con : List ℕ)
       → settled (length m) x con (result (outOf b) m′ (keptIn l′)) ≡ settled (length m) x con (instructionFrom c m l)
@@ -44,6 +49,11 @@ pub record InstructionsEnd (c : Cpu) (limit : ℕ) (m l : List ℕ) (b : Done) (
       × ((ks : List Key) (n : ℕ) (con : List ℕ) → c .stop ≡ Running → Quiet (nextOf ks (c .clock .taken)) c limit
       → endOf ks (n + (limit - c .regs .count)) (stateOf c m con l)
       ≡ endOf ks (n + (limit - (b .regs .count + 1))) (settled (length m) (afterQuiet c (raiseCount (b .regs))) con (result (outOf b) m′ (keptIn l′))))
+
+-- the same for every record with registers s, in a mode and an address space
+abbrev pub EndsFrom : Regs → Bool → Space → ℕ → (m l : List ℕ) → Done → (m′ l′ : List ℕ) → Type 0
+EndsFrom s user space limit m l b m′ l′ =
+    (c : Cpu) → c .regs ≡ s → user ≡ c .system .user → space ≡ c .space → InstructionsEnd c limit m l b m′ l′
 
 -- the same on the way: all steps up to the step count of r are made
 pub record InstructionsMade (c : Cpu) (limit : ℕ) (m l : List ℕ) (r : Regs) (m′ l′ : List ℕ) : Type 0 where

@@ -1,4 +1,5 @@
 pub mod Settled
 pub mod Instructions
+pub mod Burst
 pub mod Step
 pub mod Advance

@@ -1,20 +1,25 @@
-// Document 01, "One step": instructions one after another, a step, and a run's advance.
+// Document 01, "One step", and document 02, item 7: instructions one after another, a step, and a run's advance.
 ghost use mathlib.Core.Path.{_≡_};
+ghost use mathlib.Core.Bool.{true};
 ghost use Prim.Native.Nat.{_+_, _≤_, _<_, _^_};
 ghost use lib.ListN.{length};
 ghost use Rattle.mmu.specs.Good.{Good};
-ghost use Rattle.rules.specs.Record.{withCount, withRegs};
+ghost use Rattle.rules.specs.Record.{withCount, withRegs, withFloats};
+ghost use Rattle.rules.specs.Execute.{moved};
 ghost use Rattle.rules.specs.Step.{awake as awakeOf, settleTree};
-ghost use Rattle.contracts.specs.Contract.{outOf, Finishes};
+ghost use Rattle.contracts.specs.Contract.{floatBad, outOf, Finishes};
 ghost use Rattle.clock.specs.Taken.{KeyFits};
-ghost use Rattle.machine.specs.Instructions.{raiseCount, InstructionsEnd};
+ghost use Rattle.machine.specs.Instructions.{raiseCount, EndsFrom};
+ghost use Rattle.machine.specs.Burst.{BurstEnd};
 ghost use Rattle.machine.specs.Step.{Steps};
-ghost use Rattle.machine.specs.Advance.{Ready, Advances};
+ghost use Rattle.machine.specs.Advance.{Ready, EndsWithin, Finished, Advances};
 use contracts::Done;
 use contracts::End;
+use contracts::FloatDone;
 use paging::Space;
 use rules::Cpu;
 use rules::Due;
+use rules::Floats;
 use rules::Next;
 use rules::Regs;
 
@@ -24,11 +29,11 @@ pub struct Advanced {
     pub left: u64,
 }
 
-// Instructions one after another, with no clock event between them, up to the step count `limit`, or to the first that does not end well: that one is not
-// counted. This is the one call site of `execute::instruction`: with a second one it is no longer inlined. The address space and the mode stand beside c, so
-// that an access finds them in machine registers; in this order the loop takes fewest instructions.
+// Instructions of document 01's table one after another, with no clock event between them, up to the step count `limit`, or to the first that does not end well:
+// that one is not counted. This is the one call site of `execute::instruction`: with a second one it is no longer inlined. In this order of the parameters the loop
+// takes fewest instructions.
 fn instructions(
-    c: Cpu,
+    s: Regs,
     limit: u64,
     space: Space,
     user: bool,
@@ -36,11 +41,10 @@ fn instructions(
     tlb: &mut [u64],
     hint: &mut [u8; 256],
 ) -> Done
-    requires { ⌜ Good (length (now mem)) (c .space .pdir) (now tlb) × (c .regs .count ≤ limit) ⌝ }
-    requires { ⌜ (user ≡ c .system .user) × (space ≡ c .space) ⌝ }
-    ensures { λ b. ⌜ InstructionsEnd c limit (now (mem .entry)) (now (tlb .entry)) b (now (mem .exit)) (now (tlb .exit)) ⌝ }
+    requires { ⌜ Good (length (now mem)) (space .pdir) (now tlb) × (s .count ≤ limit) ⌝ }
+    ensures { λ b. ⌜ EndsFrom s user space limit (now (mem .entry)) (now (tlb .entry)) b (now (mem .exit)) (now (tlb .exit)) ⌝ }
 {
-    let mut r = c.regs;
+    let mut r = s;
     while r.count < limit {
         let d = execute::instruction(r, user, space, mem, tlb, hint);
         let e = d.end;
@@ -52,6 +56,68 @@ fn instructions(
         r.count = count;
     }
     contracts::fine(r)
+}
+
+// The step is counted, and pc moves 4 on.
+fn fetched(r: Regs) -> Regs
+    requires { ⌜ r .count + 1 < 2 ^ 64 ⌝ }
+    ensures { λ x. ⌜ x ≡ moved (raiseCount r) ⌝ }
+{
+    let mut n = r;
+    n.pc = word::sum(r.pc, 4);
+    n.count = r.count + 1;
+    n
+}
+
+fn burst_done(r: Regs, v: Floats, e: End) -> FloatDone
+    ensures { λ d. ⌜ d ≡ floatBad r v e ⌝ }
+{
+    FloatDone {
+        regs: r,
+        floats: v,
+        end: e,
+    }
+}
+
+// The same in the new mode: a word that document 01's table has no row for is a floating instruction, after which the loop goes on.
+fn floating_burst(
+    c: Cpu,
+    limit: u64,
+    mem: &mut [u8],
+    tlb: &mut [u64],
+    hint: &mut [u8; 256],
+) -> FloatDone
+    requires { ⌜ Good (length (now mem)) (c .space .pdir) (now tlb) × (c .regs .count ≤ limit) ⌝ }
+    requires { ⌜ c .model .doubles ≡ true ⌝ }
+    ensures { λ b. ⌜ BurstEnd c limit (now (mem .entry)) (now (tlb .entry)) b (now (mem .exit)) (now (tlb .exit)) ⌝ }
+{
+    let mut floats = c.floats;
+    let mut b = instructions(c.regs, limit, c.space, c.system.user, mem, tlb, hint);
+    loop {
+        let e = b.end;
+        let End::Undecoded(w) = e else {
+            return burst_done(b.regs, floats, e);
+        };
+        let r = b.regs;
+        let d = floating::instruction(
+            fetched(r),
+            floats,
+            w,
+            c.system.user,
+            c.space,
+            mem,
+            tlb,
+            hint,
+        );
+        let end = d.end;
+        let End::Ok = end else {
+            return burst_done(r, floats, end);
+        };
+        let mut n = d.regs;
+        n.count = r.count + 1;
+        floats = d.floats;
+        b = instructions(n, limit, c.space, c.system.user, mem, tlb, hint);
+    }
 }
 
 // The record with the registers that an instruction left.
@@ -85,7 +151,17 @@ fn settle(
         End::Trap(code) => trap::trap(c, code, trap::next_pc(c), mem, tlb, hint),
         End::Refused(f) => trap::fault(c, f, trap::next_pc(c), mem, tlb, hint),
         End::System(op) => system::system(c, op, mem, console, tlb, hint),
+        End::Undecoded(_) => trap::trap(c, paging::FINST, trap::next_pc(c), mem, tlb, hint),
     }
+}
+
+// The record with f and g.
+fn with_floats(c: Cpu, v: Floats) -> Cpu
+    ensures { λ x. ⌜ x ≡ withFloats v c ⌝ }
+{
+    let mut n = c;
+    n.floats = v;
+    n
 }
 
 // Waiting ends.
@@ -121,7 +197,21 @@ pub fn step(
     if t.system.waiting {
         return t;
     }
-    let b = instructions(c, c.regs.count + 1, c.space, c.system.user, mem, tlb, hint);
+    if c.model.doubles {
+        let b = floating_burst(c, c.regs.count + 1, mem, tlb, hint);
+        let e = b.end;
+        let x = with_floats(t, b.floats);
+        return settle(x, contracts::ended(b.regs, e), mem, console, tlb, hint);
+    }
+    let b = instructions(
+        c.regs,
+        c.regs.count + 1,
+        c.space,
+        c.system.user,
+        mem,
+        tlb,
+        hint,
+    );
     settle(t, b, mem, console, tlb, hint)
 }
 
@@ -133,6 +223,37 @@ fn raise_count(r: Regs) -> Regs
     let mut n = r;
     n.count = r.count + 1;
     n
+}
+
+// The end of n quiet steps from c, with f and g as they are after them: b says how their instructions ended. Of one that did not end well the step is finished.
+fn finish(
+    c: Cpu,
+    left: u64,
+    n: u64,
+    b: Done,
+    mem: &mut [u8],
+    console: &mut [u8],
+    tlb: &mut [u64],
+    hint: &mut [u8; 256],
+) -> Advanced
+    requires { ⌜ Good (length (now mem)) (c .space .pdir) (now tlb) × EndsWithin c left n b ⌝ }
+    ensures { λ g. ⌜ Finished c left n b (now (mem .entry)) (now (console .entry)) (now (tlb .entry)) g (now (mem .exit)) (now (console .exit)) (now (tlb .exit)) ⌝ }
+{
+    let r = b.regs;
+    let e = b.end;
+    let End::Ok = e else {
+        let y = clock::quiet::after(c, raise_count(r));
+        let x = settle(y, b, mem, console, tlb, hint);
+        return Advanced {
+            cpu: x,
+            left: left - (r.count - c.regs.count) - 1,
+        };
+    };
+    let x = clock::quiet::after(c, r);
+    Advanced {
+        cpu: x,
+        left: left - n,
+    }
 }
 
 // One step or more of a run that goes on: all steps up to the next clock event, up to an instruction that does not end well, or one step with the event.
@@ -156,20 +277,29 @@ pub fn advance(
             left: left - 1,
         };
     }
-    let b = instructions(c, c.regs.count + n, c.space, c.system.user, mem, tlb, hint);
-    let r = b.regs;
-    let e = b.end;
-    let End::Ok = e else {
-        let y = clock::quiet::after(c, raise_count(r));
-        let x = settle(y, b, mem, console, tlb, hint);
-        return Advanced {
-            cpu: x,
-            left: left - (r.count - c.regs.count) - 1,
-        };
-    };
-    let x = clock::quiet::after(c, r);
-    Advanced {
-        cpu: x,
-        left: left - n,
+    if c.model.doubles {
+        let b = floating_burst(c, c.regs.count + n, mem, tlb, hint);
+        let e = b.end;
+        let x = with_floats(c, b.floats);
+        return finish(
+            x,
+            left,
+            n,
+            contracts::ended(b.regs, e),
+            mem,
+            console,
+            tlb,
+            hint,
+        );
     }
+    let b = instructions(
+        c.regs,
+        c.regs.count + n,
+        c.space,
+        c.system.user,
+        mem,
+        tlb,
+        hint,
+    );
+    finish(c, left, n, b, mem, console, tlb, hint)
 }

@@ -50,7 +50,7 @@ word-fits (suc i) (l ∷ ls) (v ∷ vs) f h e = word-fits i ls vs (f .1) (le-of-
 low-same : (ns : List ℕ) (taken written : ℕ) → Fitting registerLongs ns → recordOfLow ns taken written ≡ recordOf ns taken written
 unfolding recordBy
 low-same ns taken written f =
-    let low : (i : ℕ) → i < 22 → getD registerLongs i false ≡ false → getD ns i 0 % 2 ^ 32 ≡ getD ns i 0 = λ i h e. mod-eq-of-lt (word-fits i registerLongs ns f h e) in
+    let low : (i : ℕ) → i < 25 → getD registerLongs i false ≡ false → getD ns i 0 % 2 ^ 32 ≡ getD ns i 0 = λ i h e. mod-eq-of-lt (word-fits i registerLongs ns f h e) in
     rw (
       low 0 (lit< tt) refl,
       low 1 (lit< tt) refl,

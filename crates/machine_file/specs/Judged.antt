@@ -64,10 +64,10 @@ lengthOk fileSize k = eqb fileSize (lengthBy k)
 abbrev pub flagOk : List ℕ → ℕ → Bool
 flagOk l i = leb (getD l i 0) 1
 
--- by their places in the list: user, iena, paging, waiting; the marks of key and timer; stop reason; cause
+-- by their places in the list: user, iena, paging, waiting; the marks of key and timer; stop reason; cause; the mode
 unfoldable pub numbersOk : List ℕ → Bool
 numbersOk l =
-    flagOk l 13 && flagOk l 14 && flagOk l 15 && flagOk l 16 && flagOk l 17 && flagOk l 18 && leb (getD l 19 0) 3 && leb (getD l 20 0) 7
+    flagOk l 13 && flagOk l 14 && flagOk l 15 && flagOk l 16 && flagOk l 17 && flagOk l 18 && leb (getD l 19 0) 3 && leb (getD l 20 0) 7 && flagOk l 22
 
 unfoldable pub recordOk : (size : ℕ) → List ℕ → Counts → Bool
 unfolding numbersOk numbersIn rightsOk cpuIn entriesIn

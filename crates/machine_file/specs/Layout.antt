@@ -11,12 +11,12 @@ use Rattle.encoding.specs.Encoding.{encoded}
 use Rattle.encoding.specs.Entries.{entryBytes, encodedEntries}
 use Rattle.machine_file.specs.declared.Counts.{Counts}
 
--- "Registers: document 01's numbers and flags, item 1's marks, stop reason, cause (0 none, then item 4's order) and step count": the order of `numbersOf`, where the
--- step count alone has 64 bits
+-- "Registers: document 01's numbers and flags, item 1's marks, stop reason, cause (0 none, then item 4's order) and step count", then item 7's mode, f and g:
+-- the order of `numbersOf`, where the step count, f and g have 64 bits
 abbrev pub registerLongs : List Bool
 registerLongs =
     false ∷ false ∷ false ∷ false ∷ false ∷ false ∷ false ∷ false ∷ false ∷ false ∷ false ∷ false ∷ false
-    ∷ false ∷ false ∷ false ∷ false ∷ false ∷ false ∷ false ∷ false ∷ true ∷ []
+    ∷ false ∷ false ∷ false ∷ false ∷ false ∷ false ∷ false ∷ false ∷ true ∷ false ∷ true ∷ true ∷ []
 
 abbrev pub headerLongs : List Bool
 headerLongs = false ∷ false ∷ false ∷ false ∷ false ∷ false ∷ false ∷ []
@@ -26,7 +26,7 @@ abbrev pub headerBytes : ℕ
 headerBytes = 28
 
 abbrev pub registerBytes : ℕ
-registerBytes = 92
+registerBytes = 112
 
 abbrev pub pageBytes : ℕ
 pageBytes = 4096

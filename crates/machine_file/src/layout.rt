@@ -12,7 +12,7 @@ use rules::Machine;
 // The bytes of the header, of the registers, and of a page.
 pub const HEADER: usize = 28;
 
-pub const REGISTERS: usize = 92;
+pub const REGISTERS: usize = 112;
 
 pub const PAGE: usize = 4096;
 

@@ -14,12 +14,14 @@ use record_numbers::NUMBERS;
 use rules::Cpu;
 use rules::Machine;
 
-// Which of the numbers take eight bytes: the step count, the last.
+// Which of the numbers take eight bytes: the step count, f and g.
 fn register_longs() -> [bool; NUMBERS]
     ensures { λ r. ⌜ r ≡ registerLongs ⌝ }
 {
     let mut longs = [false; NUMBERS];
     longs[21] = true;
+    longs[23] = true;
+    longs[24] = true;
     longs
 }
 
@@ -44,7 +46,7 @@ fn numbers_in(file: &[u8]) -> [u64; NUMBERS]
     numbers
 }
 
-// Whether flags and marks are 0 or 1, and stop reason and cause have a meaning.
+// Whether flags, marks and the mode are 0 or 1, and stop reason and cause have a meaning.
 fn numbers_ok(n: [u64; NUMBERS]) -> bool
     ensures { λ r. ⌜ r ≡ numbersOk n ⌝ }
 {
@@ -56,6 +58,7 @@ fn numbers_ok(n: [u64; NUMBERS]) -> bool
         & (n[18] <= 1)
         & (n[19] <= 3)
         & (n[20] <= 7)
+        & (n[22] <= 1)
 }
 
 // The record without the page buffer, no keys taken.

@@ -1,5 +1,5 @@
-// Document 01, "The record and the loaded program": the record as one list of numbers, in the order of its sentences, with document 02's marks after the flags; keys
-// taken and console bytes written stand beside it.
+// Document 01, "The record and the loaded program": the record as one list of numbers, in the order of its sentences, with document 02's marks after the flags and
+// its mode, f and g after the step count; keys taken and console bytes written stand beside it.
 ghost use mathlib.Core.Path.{_≡_};
 ghost use Rattle.rules.specs.Arithmetic.{flag};
 ghost use Rattle.rules.specs.Numbers.{numbersOf, stopOf, causeOf, recordOfLow};
@@ -7,7 +7,9 @@ use paging::Cause;
 use paging::Space;
 use rules::Clock;
 use rules::Cpu;
+use rules::Floats;
 use rules::LastCause;
+use rules::Model;
 use rules::Pending;
 use rules::Regs;
 use rules::Stop;
@@ -16,7 +18,7 @@ use rules::cause_number;
 use rules::stop_number;
 
 // How many numbers the list has.
-pub const NUMBERS: usize = 22;
+pub const NUMBERS: usize = 25;
 
 // A flag as a number.
 pub fn flag(b: bool) -> u64
@@ -36,6 +38,8 @@ pub fn numbers_of(c: Cpu) -> [u64; NUMBERS]
     let system = c.system;
     let stop = c.stop;
     let cause = c.cause;
+    let model = c.model;
+    let floats = c.floats;
     [
         regs.a as u64,
         regs.b as u64,
@@ -59,6 +63,9 @@ pub fn numbers_of(c: Cpu) -> [u64; NUMBERS]
         stop_number(stop) as u64,
         cause_number(cause) as u64,
         regs.count,
+        flag(model.doubles),
+        floats.f,
+        floats.g,
     ]
 }
 
@@ -141,5 +148,9 @@ pub fn record_of(n: [u64; NUMBERS], taken: usize, written: usize) -> Cpu
         cause: cause_of(n[20]),
         stop: stop_of(n[19]),
         written,
+        model: Model {
+            doubles: n[22] == 1,
+        },
+        floats: Floats { f: n[23], g: n[24] },
     }
 }

@@ -82,7 +82,7 @@ module _ (c : Cpu) where
 
   every-fault-after : (size consoleSize : ℕ) → Leaves (λ f. FaultAfter c (f .cpu)) (dueTree (dueOf c) size consoleSize c)
   every-fault-after size consoleSize =
-      every-step (λ o. Unit {0}) (keeping size consoleSize) (λ x r vs g o. after-then g (keeps refl refl)) (dueOf c) c
+      every-step (λ o. Unit {0}) (keeping size consoleSize) (λ x r vs g o. after-then g (keeps refl refl)) (λ x r v vs g o. after-then g (keeps refl refl)) (dueOf c) c
       (kept (keeps refl refl)) (λ i e. leaves-after (kept (keeps refl refl)) (delivery-keeps (awake c) _ _ _)) (leaves-all _)
 
 -- rules 1 to 3 keep both

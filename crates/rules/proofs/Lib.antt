@@ -3,6 +3,7 @@ pub mod Leaves
 pub mod LowBits
 pub mod TreeInvariant
 pub mod RunInvariant
+pub mod OldMode
 pub mod StepTree
 pub mod StepSpace
 pub mod Kept

@@ -119,7 +119,7 @@ module _ (c : Cpu) where
   every-pending : (size consoleSize : ℕ) → Leaves (PendingEnd c) (dueTree (dueOf c) size consoleSize c)
   unfolding deliverTree
   every-pending size consoleSize =
-      every-step (λ o. Unit {0}) (keeping size consoleSize) (λ x r vs g o. both-kept g) (dueOf c) c refl (λ i e. at-ask (interrupt-pending i _ e)) (leaves-all _)
+      every-step (λ o. Unit {0}) (keeping size consoleSize) (λ x r vs g o. both-kept g) (λ x r v vs g o. both-kept g) (dueOf c) c refl (λ i e. at-ask (interrupt-pending i _ e)) (leaves-all _)
 
   -- ---- what is due is delivered, or the machine stops with 3
   module _ (i : Interrupt) where

@@ -58,6 +58,8 @@ record-read c = λ i. record {
   cause = cause-read (c .cause) i;
   stop = stop-read (c .stop) i;
   written = c .written;
+  model = record { doubles = flag-read (c .model .doubles) i };
+  floats = c .floats;
 }
 
 -- records with the same numbers are equal

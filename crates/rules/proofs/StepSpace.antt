@@ -59,5 +59,5 @@ module _ (s : Space) (h : s .pdir % 4 ≡ 0) where
 pub step-aligned : (k : Next) (size consoleSize : ℕ) (c : Cpu) → c .space .pdir % 4 ≡ 0 → Leaves (DirectoryAligned (c .space)) (stepTree k size consoleSize c)
 unfolding stepTree ticked spaceAfter
 step-aligned k size consoleSize c h =
-    every-step (λ o. Unit {0}) (aligned (c .space) h size consoleSize) (λ c′ r vs g o. h) (dueOf (ticked k c)) (ticked k c) h
+    every-step (λ o. Unit {0}) (aligned (c .space) h size consoleSize) (λ c′ r vs g o. h) (λ c′ r v vs g o. h) (dueOf (ticked k c)) (ticked k c) h
     (λ i e. interrupt-aligned (c .space) h i (ticked k c)) (leaves-all _)

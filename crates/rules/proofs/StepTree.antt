@@ -12,20 +12,21 @@ use Rattle.decode.specs.declared.SysOp.the-variants.{Plain, Rti, Bout, Pdir, Sp
 use Rattle.paging.specs.declared.Access.the-variants.{Read}
 use Rattle.paging.specs.declared.Cause.the-variants.{AddressBeyondMemory}
 use Rattle.paging.specs.declared.Fault.{Fault}
-use Rattle.paging.specs.TrapCode.{FMEM, FPRIV}
+use Rattle.paging.specs.TrapCode.{FINST, FMEM, FPRIV}
 use Rattle.rules.specs.declared.Cpu.{Cpu}
 use Rattle.rules.specs.declared.Due.{Due}
 use Rattle.rules.specs.declared.Due.the-variants.{Nothing, Now}
 use Rattle.rules.specs.declared.Interrupt.{Interrupt}
 use Rattle.rules.specs.declared.Regs.{Regs}
+use Rattle.rules.specs.declared.Floats.{Floats}
 use Rattle.rules.specs.declared.Stop.the-variants.{Masked}
-use Rattle.rules.specs.Record.{withRegs, withFault, withStop, putA}
+use Rattle.rules.specs.Record.{withRegs, withFault, withStop, withFloats, putA}
 use Rattle.rules.specs.Tree.{Reply, got, denied, Tree, ask, access}
-use Rattle.rules.specs.Outcome.{Out, fine, unfetched, trap, refused, system}
-use Rattle.rules.specs.Execute.{moved, instructionTree}
+use Rattle.rules.specs.Outcome.{Out, fine, unfetched, trap, refused, system, floated, undecoded}
+use Rattle.rules.specs.Execute.{moved}
 use Rattle.rules.specs.Trap.{none as nothing, Final, ended, deliverTree, trapTree, nextPc, faultTree}
 use Rattle.rules.specs.System.{computed, returned, orFault, appended, directed, spagTree, privilegedTree, systemTree}
-use Rattle.rules.specs.Step.{settleTree, interruptTree, dueTree}
+use Rattle.rules.specs.Step.{settleTree, executedTree, interruptTree, dueTree}
 use Rattle.rules.proofs.Leaves.{Leaves, at-leaf, leaves-then, leaves-if}
 
 -- ---- what is asked of T and G
@@ -90,7 +91,8 @@ module _ {size consoleSize : ℕ} {T : Tree Final → Type 0} {G : Cpu → Type 
 -- ---- a whole step, where T claims P of every leaf, and O is known of how the instruction ends
 
 module _ {size consoleSize : ℕ} {P : Final → Type 0} {G : Cpu → Type 0} (O : Out → Type 0) (shapes : Shapes size consoleSize (Leaves P) G)
-    (completes : (c : Cpu) (r : Regs) (vs : List ℕ) → G c → O (fine r vs) → P (record { cpu = withRegs r c; values = vs; effect = nothing })) where
+    (completes : (c : Cpu) (r : Regs) (vs : List ℕ) → G c → O (fine r vs) → P (record { cpu = withRegs r c; values = vs; effect = nothing }))
+    (floats : (c : Cpu) (r : Regs) (v : Floats) (vs : List ℕ) → G c → O (floated r v vs) → P (record { cpu = withFloats v (withRegs r c); values = vs; effect = nothing })) where
   -- whatever the instruction came to
   every-settle : (c : Cpu) → G c → (x : Out) → O x → Leaves P (settleTree size consoleSize c x)
   unfolding settleTree
@@ -99,9 +101,11 @@ module _ {size consoleSize : ℕ} {P : Final → Type 0} {G : Cpu → Type 0} (O
   every-settle c g (trap code) o = every-trap shapes c code (nextPc c) g
   every-settle c g (refused f) o = every-fault shapes c f (nextPc c) g
   every-settle c g (system op) o = every-system shapes op c g
+  every-settle c g (floated r v vs) o = at-leaf (floats c r v vs g o)
+  every-settle c g (undecoded w) o = every-trap shapes c FINST (nextPc c) g
 
   -- an interrupt is due, or nothing; c is the record after rules 1 to 3
-  pub every-step : (due : Due) (c : Cpu) → G c → ((i : Interrupt) → due ≡ Now i → Leaves P (interruptTree i c)) → Leaves O (instructionTree (c .regs))
+  pub every-step : (due : Due) (c : Cpu) → G c → ((i : Interrupt) → due ≡ Now i → Leaves P (interruptTree i c)) → Leaves O (executedTree c)
       → Leaves P (dueTree due size consoleSize c)
   unfolding dueTree
   every-step (Now i) c g delivers l = delivers i refl

@@ -7,6 +7,7 @@ pub mod Transfer
 pub mod Jump
 pub mod Block
 pub mod Execute
+pub mod Floating
 pub mod Trap
 pub mod System
 pub mod Clock

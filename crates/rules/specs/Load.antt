@@ -1,4 +1,4 @@
--- Document 01, "The record and the loaded program", and document 02, item 4: what a load gives.
+-- Document 01, "The record and the loaded program", and document 02, items 4 and 7: what a load gives.
 use Prim.Native.Nat.{ℕ, _-_}
 use mathlib.Core.Bool.{false}
 use mathlib.Core.List.{List, _++_}
@@ -12,7 +12,7 @@ use Rattle.rules.specs.declared.Machine.{Machine}
 use Rattle.rules.specs.declared.Stop.the-variants.{Running}
 use Rattle.rules.specs.declared.LastCause.the-variants.{None}
 
--- "pc = entry, sp = M, kbchar = 0xFFFFFFFF, all else 0"; the cause is "none at first"
+-- "pc = entry, sp = M, kbchar = 0xFFFFFFFF, all else 0"; the cause is "none at first", the mode "0 the old one"
 abbrev pub cpuWith : (sp pc kbchar : ℕ) → Cpu
 cpuWith sp pc kbchar = record {
   regs = record { a = 0; b = 0; c = 0; sp = sp; pc = pc; count = 0 };
@@ -23,6 +23,8 @@ cpuWith sp pc kbchar = record {
   cause = None;
   stop = Running;
   written = 0;
+  model = record { doubles = false };
+  floats = record { f = 0; g = 0 };
 }
 
 abbrev pub freshCpu : (size entry : ℕ) → Cpu

@@ -16,14 +16,15 @@ use Rattle.rules.specs.Arithmetic.{flag}
 use Rattle.rules.specs.Record.{stopNumber, causeNumber}
 
 -- "Numbers: a, b, c, sp, usp, ksp, pc, ivec, pdir, vadr, timer, timeout, kbchar. Flags: user, iena, paging, waiting. Also: stop reason, step count"; "The record
--- gains two marks", of a key and of the timer; "stop reason, cause (0 none, then item 4's order) and step count"
+-- gains two marks", of a key and of the timer; "stop reason, cause (0 none, then item 4's order) and step count"; "Item 5's
+-- register block grows by the mode, f and g"
 abbrev pub numbersOf : Cpu → List ℕ
 numbersOf c =
     c .regs .a ∷ c .regs .b ∷ c .regs .c ∷ c .regs .sp ∷ c .system .usp ∷ c .system .ksp ∷ c .regs .pc ∷ c .system .ivec
     ∷ c .space .pdir ∷ c .vadr ∷ c .clock .timer ∷ c .clock .timeout ∷ c .clock .kbchar
     ∷ flag (c .system .user) ∷ flag (c .system .iena) ∷ flag (c .space .paging) ∷ flag (c .system .waiting)
     ∷ flag (c .clock .pending .key) ∷ flag (c .clock .pending .timer) ∷ stopNumber (c .stop) ∷ causeNumber (c .cause)
-    ∷ c .regs .count ∷ []
+    ∷ c .regs .count ∷ flag (c .model .doubles) ∷ c .floats .f ∷ c .floats .g ∷ []
 
 -- a flag, from its number
 abbrev pub flagOf : ℕ → Bool
@@ -69,6 +70,8 @@ recordBy word l taken written = record {
   cause = causeOf (getD l 20 0);
   stop = stopOf (getD l 19 0);
   written = written;
+  model = record { doubles = flagOf (getD l 22 0) };
+  floats = record { f = getD l 23 0; g = getD l 24 0 };
 }
 
 -- as they are

@@ -1,10 +1,11 @@
--- Document 01, "One step", the order of faults: how an instruction ends. Only a completed one carries stores.
+-- Document 01, "One step", the order of faults, and document 02, item 7: how an instruction ends. Only a completed one carries stores.
 use Prim.Native.Nat.{ℕ}
 use mathlib.Core.List.{List, [], _∷_}
 use Rattle.decode.specs.declared.SysOp.{SysOp}
 use Rattle.paging.specs.declared.Access.the-variants.{Read, Write}
 use Rattle.paging.specs.declared.Fault.{Fault}
 use Rattle.rules.specs.declared.Regs.{Regs}
+use Rattle.rules.specs.declared.Floats.{Floats}
 use Rattle.rules.specs.Tree.{Reply, got, denied, Tree, ask, done, access}
 
 pub data Out : Type 0 where
@@ -18,6 +19,10 @@ pub data Out : Type 0 where
   refused : Fault → Out
   -- a privileged instruction
   system : SysOp → Out
+  -- a floating instruction: new registers, f and g, and the values stored
+  floated : Regs → Floats → List ℕ → Out
+  -- a word that document 01's table has no row for
+  undecoded : ℕ → Out
 
 -- new registers and no store
 abbrev pub plain : Regs → Tree Out

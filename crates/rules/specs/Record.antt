@@ -1,4 +1,4 @@
--- Document 01, "The record and the loaded program", and document 02, items 1 and 4: the numbers of stop reasons and causes, and the record with one part put in place.
+-- Document 01, "The record and the loaded program", and document 02, items 1, 4 and 7: the numbers of stop reasons and causes, and the record with one part put in place.
 use Prim.Native.Nat.{ℕ}
 use mathlib.Core.Bool.{Bool, true, false}
 use Rattle.word.specs.Word.{cut}
@@ -13,6 +13,7 @@ use Rattle.rules.specs.declared.Stop.{Stop}
 use Rattle.rules.specs.declared.Stop.the-variants.{Running, Halted, Masked, NoFrame}
 use Rattle.rules.specs.declared.LastCause.{LastCause}
 use Rattle.rules.specs.declared.LastCause.the-variants.{None, Of}
+use Rattle.rules.specs.declared.Floats.{Floats}
 use Rattle.rules.specs.declared.Cpu.{Cpu}
 
 -- "Stop reasons: 0 running, 1 halted, 2 trap while iena = 0, 3 trap frame cannot be stored"
@@ -69,26 +70,52 @@ setPc x r = withPc (cut 4 x) r
 -- ---- the groups of the record
 
 abbrev pub withRegs : Regs → Cpu → Cpu
-withRegs r c = record { regs = r; clock = c .clock; vadr = c .vadr; space = c .space; system = c .system; cause = c .cause; stop = c .stop; written = c .written }
+withRegs r c = record { regs = r; clock = c .clock; vadr = c .vadr; space = c .space; system = c .system; cause = c .cause; stop = c .stop; written = c .written; model = c .model; floats = c .floats }
 
 abbrev pub withClock : Clock → Cpu → Cpu
-withClock clock c = record { regs = c .regs; clock = clock; vadr = c .vadr; space = c .space; system = c .system; cause = c .cause; stop = c .stop; written = c .written }
+withClock clock c = record {
+  regs = c .regs;
+  clock = clock;
+  vadr = c .vadr;
+  space = c .space;
+  system = c .system;
+  cause = c .cause;
+  stop = c .stop;
+  written = c .written;
+  model = c .model;
+  floats = c .floats;
+}
 
 -- a fault sets vadr and, "whenever vadr is", the cause
 abbrev pub withFault : Fault → Cpu → Cpu
-withFault f c = record { regs = c .regs; clock = c .clock; vadr = f .address; space = c .space; system = c .system; cause = Of (f .cause); stop = c .stop; written = c .written }
+withFault f c = record {
+  regs = c .regs;
+  clock = c .clock;
+  vadr = f .address;
+  space = c .space;
+  system = c .system;
+  cause = Of (f .cause);
+  stop = c .stop;
+  written = c .written;
+  model = c .model;
+  floats = c .floats;
+}
 
 abbrev pub withSpace : Space → Cpu → Cpu
-withSpace s c = record { regs = c .regs; clock = c .clock; vadr = c .vadr; space = s; system = c .system; cause = c .cause; stop = c .stop; written = c .written }
+withSpace s c = record { regs = c .regs; clock = c .clock; vadr = c .vadr; space = s; system = c .system; cause = c .cause; stop = c .stop; written = c .written; model = c .model; floats = c .floats }
 
 abbrev pub withSystem : System → Cpu → Cpu
-withSystem y c = record { regs = c .regs; clock = c .clock; vadr = c .vadr; space = c .space; system = y; cause = c .cause; stop = c .stop; written = c .written }
+withSystem y c = record { regs = c .regs; clock = c .clock; vadr = c .vadr; space = c .space; system = y; cause = c .cause; stop = c .stop; written = c .written; model = c .model; floats = c .floats }
 
 abbrev pub withStop : Stop → Cpu → Cpu
-withStop x c = record { regs = c .regs; clock = c .clock; vadr = c .vadr; space = c .space; system = c .system; cause = c .cause; stop = x; written = c .written }
+withStop x c = record { regs = c .regs; clock = c .clock; vadr = c .vadr; space = c .space; system = c .system; cause = c .cause; stop = x; written = c .written; model = c .model; floats = c .floats }
 
 abbrev pub withWritten : ℕ → Cpu → Cpu
-withWritten x c = record { regs = c .regs; clock = c .clock; vadr = c .vadr; space = c .space; system = c .system; cause = c .cause; stop = c .stop; written = x }
+withWritten x c = record { regs = c .regs; clock = c .clock; vadr = c .vadr; space = c .space; system = c .system; cause = c .cause; stop = c .stop; written = x; model = c .model; floats = c .floats }
+
+-- document 02, item 7: f and g
+abbrev pub withFloats : Floats → Cpu → Cpu
+withFloats x c = record { regs = c .regs; clock = c .clock; vadr = c .vadr; space = c .space; system = c .system; cause = c .cause; stop = c .stop; written = c .written; model = c .model; floats = x }
 
 -- ---- within the groups
 
@@ -136,6 +163,12 @@ withIena x y = record { usp = y .usp; ksp = y .ksp; ivec = y .ivec; user = y .us
 
 abbrev pub withWaiting : Bool → System → System
 withWaiting x y = record { usp = y .usp; ksp = y .ksp; ivec = y .ivec; user = y .user; iena = y .iena; waiting = x }
+
+abbrev pub withF : ℕ → Floats → Floats
+withF x v = record { f = x; g = v .g }
+
+abbrev pub withG : ℕ → Floats → Floats
+withG x v = record { f = v .f; g = x }
 
 -- register a of a record, set
 abbrev pub putA : ℕ → Cpu → Cpu

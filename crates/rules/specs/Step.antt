@@ -1,10 +1,12 @@
--- Document 01, "One step", and document 02, item 1: a step of the machine with the page buffer and of the table reader, by one rule.
+-- Document 01, "One step", and document 02, items 1 and 7: a step of the machine with the page buffer and of the table reader, by one rule.
 use Prim.Native.Nat.{ℕ, _+_}
 use mathlib.Core.Bool.{false}
 use mathlib.Core.List.{List, [], _∷_, _++_}
 use lib.ListN.{length, set}
 use Rattle.word.specs.Word.{if_then_else_}
 use Rattle.paging.specs.declared.Space.{Space}
+use Rattle.floating_decode.specs.Opcodes.{floatingDecodeOf}
+use Rattle.paging.specs.TrapCode.{FINST}
 use Rattle.paging.specs.Event.{Event, delivered}
 use Rattle.paging.specs.Translate.{Translator}
 use Rattle.rules.specs.declared.Cpu.{Cpu}
@@ -13,13 +15,31 @@ use Rattle.rules.specs.declared.Due.the-variants.{Nothing, Now}
 use Rattle.rules.specs.declared.Interrupt.{Interrupt}
 use Rattle.rules.specs.declared.Key.{Key}
 use Rattle.rules.specs.declared.Next.{Next}
-use Rattle.rules.specs.Record.{withCount, withRegs, withSpace, withSystem, withWaiting}
-use Rattle.rules.specs.Tree.{Tree, bind, Ended, storeAll, storeEvents, interpret}
-use Rattle.rules.specs.Outcome.{Out, fine, unfetched, trap, refused, system}
-use Rattle.rules.specs.Execute.{instructionTree}
+use Rattle.rules.specs.Record.{withCount, withRegs, withSpace, withSystem, withFloats, withWaiting}
+use Rattle.rules.specs.Tree.{Tree, done, bind, Ended, storeAll, storeEvents, interpret}
+use Rattle.rules.specs.Outcome.{Out, fine, unfetched, trap, refused, system, floated, undecoded}
+use Rattle.rules.specs.Execute.{moved, instructionTree}
+use Rattle.rules.specs.Floating.{floatTree}
 use Rattle.rules.specs.Trap.{Effect, none as nothing, setSpace, deliver, print, Final, final, ended, deliverTree, trapTree, faultTree, nextPc}
 use Rattle.rules.specs.System.{systemTree}
 use Rattle.rules.specs.Clock.{nextOf, ticked, interruptCode, dueOf, cleared}
+
+-- document 02, item 7: "This is a mode of the machine"; "the old mode keeps document 01's table": a word that has no row there is a floating instruction in the
+-- new mode; c is the record before the fetch
+unfoldable pub furtherTree : Cpu → Out → Tree Out
+unfolding floatTree
+furtherTree c (fine r vs) = done (fine r vs)
+furtherTree c (unfetched f) = done (unfetched f)
+furtherTree c (trap code) = done (trap code)
+furtherTree c (refused f) = done (refused f)
+furtherTree c (system op) = done (system op)
+furtherTree c (floated r v vs) = done (floated r v vs)
+furtherTree c (undecoded w) = if c .model .doubles then floatTree (floatingDecodeOf w) (moved (c .regs)) (c .floats) else done (undecoded w)
+
+-- the instruction of a step, in the machine's mode
+unfoldable pub executedTree : Cpu → Tree Out
+unfolding instructionTree furtherTree
+executedTree c = bind (instructionTree (c .regs)) (furtherTree c)
 
 -- the rest of a step after its instruction: c is the record before the fetch, its count raised, size and consoleSize the lengths of memory and console
 unfoldable pub settleTree : (size consoleSize : ℕ) → Cpu → Out → Tree Final
@@ -29,6 +49,8 @@ settleTree size consoleSize c (unfetched f) = faultTree c f (c .regs .pc)
 settleTree size consoleSize c (trap code) = trapTree c code (nextPc c)
 settleTree size consoleSize c (refused f) = faultTree c f (nextPc c)
 settleTree size consoleSize c (system op) = systemTree size consoleSize op c
+settleTree size consoleSize c (floated r v vs) = final (withFloats v (withRegs r c)) vs nothing
+settleTree size consoleSize c (undecoded w) = trapTree c FINST (nextPc c)
 
 -- "waiting ends"
 abbrev pub awake : Cpu → Cpu
@@ -41,9 +63,9 @@ interruptTree i c = deliverTree (awake c) (cleared i (c .clock .pending)) (inter
 
 -- rules 4 and 5: "If something is due, waiting ends and the trap is delivered; the step ends. If waiting, the step ends. Else fetch"
 unfoldable pub dueTree : Due → (size consoleSize : ℕ) → Cpu → Tree Final
-unfolding settleTree instructionTree
+unfolding settleTree executedTree
 dueTree (Now i) size consoleSize c = interruptTree i c
-dueTree Nothing size consoleSize c = if c .system .waiting then ended c else bind (instructionTree (c .regs)) (settleTree size consoleSize c)
+dueTree Nothing size consoleSize c = if c .system .waiting then ended c else bind (executedTree c) (settleTree size consoleSize c)
 
 -- a step, from the record before it
 unfoldable pub stepTree : Next → (size consoleSize : ℕ) → Cpu → Tree Final

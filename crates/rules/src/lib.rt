@@ -1,4 +1,4 @@
-// Document 01, "The record and the loaded program", and document 02, items 1 and 4: the record, in groups by who writes them.
+// Document 01, "The record and the loaded program", and document 02, items 1, 4 and 7: the record, in groups by who writes them.
 ghost use mathlib.Core.Path.{_≡_};
 ghost use Rattle.rules.specs.Record.{stopNumber, causeNumber, isRunning};
 ghost use Rattle.rules.specs.Clock.{interruptCode};
@@ -58,7 +58,18 @@ pub enum LastCause {
     Of(Cause),
 }
 
-// The record without the page buffer. `vadr` is the faulting address, with `cause`, which takes no room where it stands; `written` is the count of console bytes.
+// The floating registers, as 64-bit patterns.
+pub struct Floats {
+    pub f: u64,
+    pub g: u64,
+}
+
+// What no instruction changes: document 02's mode of the machine, in which the floating instructions are legal.
+pub struct Model {
+    pub doubles: bool,
+}
+
+// The record without the page buffer. `vadr` is the faulting address, with `cause`, which, as `model`, takes no room where it stands; `written` is the count of console bytes.
 pub struct Cpu {
     pub regs: Regs,
     pub clock: Clock,
@@ -67,7 +78,9 @@ pub struct Cpu {
     pub system: System,
     pub cause: LastCause,
     pub stop: Stop,
+    pub model: Model,
     pub written: usize,
+    pub floats: Floats,
 }
 
 // The record: the page buffer's counted entries stand first among its slots; later slots mean nothing.

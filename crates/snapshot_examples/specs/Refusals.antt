@@ -55,10 +55,10 @@ reading =
     readInto 4096 2 file gives 14 ∷
     -- 15: "an offset or length that doesn't follow from the counts"
     readAs (changed 12 29) gives 15 ∷
-    readAs (changed 16 124) gives 15 ∷
+    readAs (changed 16 120) gives 15 ∷
     readAs (changed 23 1) gives 15 ∷
-    readAs (changed 24 140) gives 15 ∷
-    readAs (take 4234 file) gives 15 ∷
+    readAs (changed 24 160) gives 15 ∷
+    readAs (take 4254 file) gives 15 ∷
     readAs (file ++ (0 ∷ [])) gives 15 ∷
     -- 16: "registers .. that document 01's 2 .. would refuse": sp, pc, pdir, step count
     readAs (changed 40 4) gives 16 ∷
@@ -77,11 +77,17 @@ reading =
     readAs (changed 104 4) gives 16 ∷
     readAs (changed 108 7) gives 0 ∷
     readAs (changed 108 8) gives 16 ∷
+    -- item 7's mode, a flag too; any f and g
+    readAs (changed 120 0) gives 0 ∷
+    readAs (changed 120 2) gives 16 ∷
+    readAs (changed 123 1) gives 16 ∷
+    readAs (changed 131 0x7f) gives 0 ∷
+    readAs (changed 139 0xff) gives 0 ∷
     -- "entries that document 01's .. 3 would refuse": page 2^20, frame M/4,096; a right
-    readAs (changed 122 0x10) gives 16 ∷
-    readAs (changed 124 1) gives 16 ∷
-    readAs (changed 128 2) gives 16 ∷
-    readAs (changed 132 2) gives 16 ∷
+    readAs (changed 142 0x10) gives 16 ∷
+    readAs (changed 144 1) gives 16 ∷
+    readAs (changed 148 2) gives 16 ∷
+    readAs (changed 152 2) gives 16 ∷
     -- "lower wins"
     readNumber (firstReadRefusal true true true false false) gives 15 ∷
     readNumber (firstReadRefusal true true false false false) gives 14 ∷
@@ -92,7 +98,7 @@ reading =
 pub reading-shown : Edges reading
 unfolding readAs changed
 reading-shown =
-    tt and  -- as it was saved
+    tt and  -- as it was saved, in the new mode
     tt and  -- M 4,095, 27 bytes
     tt and  -- M 0, no byte
     tt and  -- no byte
@@ -105,9 +111,9 @@ reading-shown =
     tt and  -- a console of three bytes
     tt and  -- of two
     tt and  -- registers at 29
-    tt and  -- entries at 124
+    tt and  -- entries at 120, where they stood before item 7
     tt and  -- console 2^24 too high
-    tt and  -- memory at 140
+    tt and  -- memory at 160
     tt and  -- a byte short
     tt and  -- a byte long
     tt and  -- sp 4
@@ -124,6 +130,11 @@ reading-shown =
     tt and  -- stop 4
     tt and  -- cause 7
     tt and  -- cause 8
+    tt and  -- the old mode
+    tt and  -- mode 2
+    tt and  -- mode 2^24 and 1
+    tt and  -- f a NaN
+    tt and  -- g's high byte 255
     tt and  -- page 2^20 and more
     tt and  -- frame 1
     tt and  -- user right 2
@@ -147,9 +158,9 @@ with m = savedInto m 4096 4 8192
 
 abbrev pub saving : List Edge
 saving =
-    savedInto machine 4096 4 4235 gives 0 ∷
+    savedInto machine 4096 4 4255 gives 0 ∷
     -- 13: "on saving than the result"
-    savedInto machine 4096 4 4234 gives 13 ∷
+    savedInto machine 4096 4 4254 gives 13 ∷
     -- 1, 2, 3 and 5 come first
     savedInto machine 4095 4 0 gives 1 ∷
     with (record { cpu = putPc 2 fresh; entries = replicate 64 zeroEntry; held = 0 }) gives 2 ∷
@@ -158,9 +169,9 @@ saving =
     with (record { cpu = fresh; entries = entry 5 0 true true ∷ entry 5 0 true true ∷ replicate 62 zeroEntry; held = 2 }) gives 3 ∷
     with (record { cpu = putWritten 5 fresh; entries = replicate 64 zeroEntry; held = 0 }) gives 5 ∷
     with (record { cpu = putWritten 4 fresh; entries = replicate 64 zeroEntry; held = 0 }) gives 0 ∷
-    -- 15: "on saving an offset of 2^32 or more": 120 bytes and the console
-    savedInto (record { cpu = putWritten 0xffffff87 fresh; entries = replicate 64 zeroEntry; held = 0 }) 4096 0x100000000 0x200000000 gives 0 ∷
-    savedInto (record { cpu = putWritten 0xffffff88 fresh; entries = replicate 64 zeroEntry; held = 0 }) 4096 0x100000000 0x200000000 gives 15 ∷
+    -- 15: "on saving an offset of 2^32 or more": 140 bytes and the console
+    savedInto (record { cpu = putWritten 0xffffff73 fresh; entries = replicate 64 zeroEntry; held = 0 }) 4096 0x100000000 0x200000000 gives 0 ∷
+    savedInto (record { cpu = putWritten 0xffffff74 fresh; entries = replicate 64 zeroEntry; held = 0 }) 4096 0x100000000 0x200000000 gives 15 ∷
     -- "lower wins"
     saveNumber (firstSaveRefusal true true true true false false) gives 13 ∷
     saveNumber (firstSaveRefusal true true true false false false) gives 5 ∷

@@ -3,7 +3,7 @@ ghost use mathlib.Core.Path.{_≡_};
 
 // The bytes of header and registers.
 pub fn head() -> u32
-    ensures { λ r. ⌜ r ≡ 120 ⌝ }
+    ensures { λ r. ⌜ r ≡ 140 ⌝ }
 {
-    120
+    140
 }

@@ -53,10 +53,11 @@ listed-all zero i l e = let h : length l ≤ i = omega (arith, e) in sym (drop-o
 listed-all (suc n) i l e = ap (λ (t : List ℕ). getD l i 0 ∷ t) (listed-all n (suc i) l (omega arith)) ∙ sym (drop-cons l i 0 (omega arith))
 
 -- numbers with a meaning are those of the record that they give
-pub numbers-back : (l : List ℕ) (taken written : ℕ) → length l ≡ 22 → numbersOk l ≡ true → numbersOf (recordOf l taken written) ≡ l
+pub numbers-back : (l : List ℕ) (taken written : ℕ) → length l ≡ 25 → numbersOk l ≡ true → numbersOf (recordOf l taken written) ≡ l
 unfolding numbersOk recordBy listed
 numbers-back l taken written n h =
-    let g = both _ (leb (getD l 20 0) 7) h in
+    let m = both _ (flagOk l 22) h in
+    let g = both _ (leb (getD l 20 0) 7) (m .0) in
     let f = both _ (leb (getD l 19 0) 3) (g .0) in
     let e = both _ (flagOk l 18) (f .0) in
     let d = both _ (flagOk l 17) (e .0) in
@@ -72,5 +73,6 @@ numbers-back l taken written n h =
       flag-back (getD l 18 0) (leb-true (getD l 18 0) 1 (e .1)),
       stop-back (getD l 19 0) (leb-true (getD l 19 0) 3 (f .1)),
       cause-back (getD l 20 0) (leb-true (getD l 20 0) 7 (g .1)),
+      flag-back (getD l 22 0) (leb-true (getD l 22 0) 1 (m .1)),
     )
-    (listed-all 22 0 l (sym n))
+    (listed-all 25 0 l (sym n))

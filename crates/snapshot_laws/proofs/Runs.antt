@@ -68,6 +68,8 @@ none-taken-same c e = λ i. record {
   cause = c .cause;
   stop = c .stop;
   written = c .written;
+  model = c .model;
+  floats = c .floats;
 }
 
 pub goes-on : GoesOn

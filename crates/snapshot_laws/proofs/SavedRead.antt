@@ -76,6 +76,7 @@ own-numbers c =
       flag-ok (c .clock .pending .timer),
       stop-ok (c .stop),
       cause-ok (c .cause),
+      flag-ok (c .model .doubles),
     )
 
 all-true : {a b c d : Bool} → a ≡ true → b ≡ true → c ≡ true → d ≡ true → a && b && c && d ≡ true

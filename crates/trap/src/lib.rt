@@ -27,6 +27,8 @@ pub fn stopped(c: Cpu, s: Stop) -> Cpu
     let space = c.space;
     let system = c.system;
     let cause = c.cause;
+    let model = c.model;
+    let floats = c.floats;
     Cpu {
         regs,
         clock,
@@ -36,6 +38,8 @@ pub fn stopped(c: Cpu, s: Stop) -> Cpu
         cause,
         stop: s,
         written: c.written,
+        model,
+        floats,
     }
 }
 
@@ -56,6 +60,8 @@ fn with_fault(c: Cpu, f: Fault) -> Cpu
     let system = c.system;
     let stop = c.stop;
     let cause = f.cause;
+    let model = c.model;
+    let floats = c.floats;
     Cpu {
         regs,
         clock,
@@ -65,6 +71,8 @@ fn with_fault(c: Cpu, f: Fault) -> Cpu
         cause: LastCause::Of(cause),
         stop,
         written: c.written,
+        model,
+        floats,
     }
 }
 

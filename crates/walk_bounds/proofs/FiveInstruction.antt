@@ -1,5 +1,5 @@
 -- Document 02, item 6, "never more than five in a step": the translations of each instruction, a line for each. The fetch leaves four: two operands at most, and two for
--- the frame of what may follow; a privileged instruction asks for none itself, and leaves four to RTI.
+-- the frame of what may follow; a privileged instruction asks for none itself, and leaves four to RTI; a word without a row leaves three to a floating instruction.
 use Prim.Native.Nat.{ℕ, suc}
 use mathlib.Core.Bool.{_&&_}
 use mathlib.Core.List.{List}
@@ -17,22 +17,25 @@ use Rattle.decode.specs.declared.Instr.the-variants.{Store, LoadImm, LoadHigh, 
 use Rattle.paging.specs.declared.Access.{Access}
 use Rattle.rules.specs.declared.Regs.{Regs}
 use Rattle.rules.specs.Tree.{access, Reply, got, denied, Tree, ask, done}
-use Rattle.rules.specs.Outcome.{Out, fine, unfetched, trap, refused, system, orRefused}
+use Rattle.rules.specs.Outcome.{Out, fine, unfetched, trap, refused, system, floated, undecoded, orRefused}
 use Rattle.rules.specs.Arithmetic.{divides, aluTree, aluFrom}
 use Rattle.rules.specs.Block.{byteTree}
 use Rattle.rules.specs.Execute.{executeTree, moved, fetched, instructionTree}
 use Rattle.walk_bounds.proofs.Within.{Within, within-leaf, within-ask, within-more, within-if}
 
--- what the rest of the step may translate, by how the instruction ends: the two slots of a trap's frame; for a privileged one RTI's two reads too
+-- what the rest of the step may translate, by how the instruction ends: the two slots of a trap's frame; for a privileged one RTI's two reads too; for a word
+-- without a row a floating instruction's operand too
 abbrev pub restOf : Out → ℕ
 restOf (fine r vs) = 0
 restOf (unfetched f) = 2
 restOf (trap code) = 2
 restOf (refused f) = 2
 restOf (system op) = 4
+restOf (floated r v vs) = 0
+restOf (undecoded w) = 3
 
 -- an instruction's tree, of which at most n translations are left
-abbrev AtMost : ℕ → Tree Out → Type 0
+abbrev pub AtMost : ℕ → Tree Out → Type 0
 AtMost n t = Within restOf n t
 
 -- ---- the parts of instructions
@@ -42,7 +45,7 @@ fine-within : {n : ℕ} {r : Regs} {vs : List ℕ} → AtMost n (done (fine r vs
 fine-within {n} = within-leaf (omega arith)
 
 -- an operand; denied, a frame has two slots
-operand-within : {n : ℕ} {kind : Access} {size va : ℕ} {k : ℕ → Tree Out} → ((v : ℕ) → AtMost (suc (suc n)) (k v))
+pub operand-within : {n : ℕ} {kind : Access} {size va : ℕ} {k : ℕ → Tree Out} → ((v : ℕ) → AtMost (suc (suc n)) (k v))
     → AtMost (suc (suc (suc n))) (ask (access kind size va) (orRefused k))
 operand-within {n} {k = k} h = within-ask (suc (suc n)) (omega arith) go
   where
@@ -71,36 +74,36 @@ byte-within Mset r = operand-within (λ x. fine-within)
 
 -- ---- every instruction, fetched
 
-execute-within : (i : Instr) (r : Regs) → AtMost 4 (executeTree i r)
+execute-within : (w : ℕ) (i : Instr) (r : Regs) → AtMost 4 (executeTree w i r)
 unfolding executeTree
-execute-within Illegal r = within-leaf (omega arith)
-execute-within Nop r = fine-within
-execute-within Trap r = within-leaf (omega arith)
-execute-within Cyc r = fine-within
-execute-within Jsra r = operand-within (λ x. fine-within)
-execute-within Lba r = fine-within
-execute-within Lca r = fine-within
-execute-within (Ent i) r = fine-within
-execute-within (Lev i) r = operand-within (λ v. fine-within)
-execute-within (Jmp i) r = fine-within
-execute-within (Jmpi i) r = fine-within
-execute-within (Jsr i) r = operand-within (λ x. fine-within)
-execute-within (Lea i) r = fine-within
-execute-within (Leag i) r = fine-within
-execute-within (Block op) r = within-if (eqb (r .c) 0) fine-within (byte-within op r)
-execute-within (Load d b f i) r = operand-within (λ v. fine-within)
-execute-within (Store b s i) r = operand-within (λ x. fine-within)
-execute-within (LoadImm d i) r = fine-within
-execute-within (LoadHigh d f) r = fine-within
-execute-within (Alu op x) r = from-within op x r
-execute-within (Compare t) r = fine-within
-execute-within (Bz i) r = fine-within
-execute-within (Bnz i) r = fine-within
-execute-within (Branch t i) r = fine-within
-execute-within (Push d) r = operand-within (λ x. fine-within)
-execute-within (Pshi i) r = operand-within (λ x. fine-within)
-execute-within (Pop d) r = operand-within (λ v. fine-within)
-execute-within (Sys op) r = within-leaf (omega arith)
+execute-within w Illegal r = within-leaf (omega arith)
+execute-within w Nop r = fine-within
+execute-within w Trap r = within-leaf (omega arith)
+execute-within w Cyc r = fine-within
+execute-within w Jsra r = operand-within (λ x. fine-within)
+execute-within w Lba r = fine-within
+execute-within w Lca r = fine-within
+execute-within w (Ent i) r = fine-within
+execute-within w (Lev i) r = operand-within (λ v. fine-within)
+execute-within w (Jmp i) r = fine-within
+execute-within w (Jmpi i) r = fine-within
+execute-within w (Jsr i) r = operand-within (λ x. fine-within)
+execute-within w (Lea i) r = fine-within
+execute-within w (Leag i) r = fine-within
+execute-within w (Block op) r = within-if (eqb (r .c) 0) fine-within (byte-within op r)
+execute-within w (Load d b f i) r = operand-within (λ v. fine-within)
+execute-within w (Store b s i) r = operand-within (λ x. fine-within)
+execute-within w (LoadImm d i) r = fine-within
+execute-within w (LoadHigh d f) r = fine-within
+execute-within w (Alu op x) r = from-within op x r
+execute-within w (Compare t) r = fine-within
+execute-within w (Bz i) r = fine-within
+execute-within w (Bnz i) r = fine-within
+execute-within w (Branch t i) r = fine-within
+execute-within w (Push d) r = operand-within (λ x. fine-within)
+execute-within w (Pshi i) r = operand-within (λ x. fine-within)
+execute-within w (Pop d) r = operand-within (λ v. fine-within)
+execute-within w (Sys op) r = within-leaf (omega arith)
 
 -- the fetch, then the instruction
 pub instruction-within : (r : Regs) → Within restOf 5 (instructionTree r)
@@ -108,5 +111,5 @@ unfolding instructionTree
 instruction-within r = within-ask 4 (omega arith) go
   where
     go : (x : Reply) → AtMost 4 (fetched r x)
-    go (got w) = execute-within (decodeOf w) (moved r)
+    go (got w) = execute-within w (decodeOf w) (moved r)
     go (denied f) = within-leaf (omega arith)

@@ -6,7 +6,7 @@ use Rattle.decode.specs.declared.SysOp.{SysOp}
 use Rattle.decode.specs.declared.SysOp.the-variants.{Plain, Rti, Bout, Pdir, Spag}
 use Rattle.paging.specs.declared.Access.the-variants.{Read}
 use Rattle.paging.specs.declared.Fault.{Fault}
-use Rattle.paging.specs.TrapCode.{FPRIV}
+use Rattle.paging.specs.TrapCode.{FINST, FPRIV}
 use Rattle.rules.specs.declared.Cpu.{Cpu}
 use Rattle.rules.specs.declared.Due.{Due}
 use Rattle.rules.specs.declared.Due.the-variants.{Nothing, Now}
@@ -14,14 +14,15 @@ use Rattle.rules.specs.declared.Next.{Next}
 use Rattle.rules.specs.declared.Pending.{Pending}
 use Rattle.rules.specs.Record.{withRegs, withFault}
 use Rattle.rules.specs.Tree.{access, Reply, got, denied, Tree, ask, done}
-use Rattle.rules.specs.Outcome.{Out, fine, unfetched, trap, refused, system}
+use Rattle.rules.specs.Outcome.{Out, fine, unfetched, trap, refused, system, floated, undecoded}
 use Rattle.rules.specs.Execute.{moved}
 use Rattle.rules.specs.Trap.{Final, framed, deliverTree, trapTree, faultTree, nextPc}
 use Rattle.rules.specs.System.{orFault, privilegedTree, systemTree}
 use Rattle.rules.specs.Clock.{ticked, interruptCode, dueOf, cleared}
 use Rattle.rules.specs.Step.{settleTree, awake, dueTree, stepTree}
 use Rattle.walk_bounds.proofs.Within.{Within, within-leaf, within-ask, within-more, within-if, within-then}
-use Rattle.walk_bounds.proofs.FiveInstruction.{restOf, instruction-within}
+use Rattle.walk_bounds.proofs.FiveInstruction.{restOf}
+use Rattle.walk_bounds.proofs.FiveFloating.{executed-within}
 
 -- a tree that ends the step: nothing is left to its leaf
 abbrev AtMost : ℕ → Tree Final → Type 0
@@ -79,15 +80,17 @@ settle-within size consoleSize c (unfetched f) = fault-within c f (c .regs .pc)
 settle-within size consoleSize c (trap code) = trap-within c code (nextPc c)
 settle-within size consoleSize c (refused f) = fault-within c f (nextPc c)
 settle-within size consoleSize c (system op) = system-within size consoleSize op c
+settle-within size consoleSize c (floated r v vs) = ends-within
+settle-within size consoleSize c (undecoded w) = within-more 2 3 (omega arith) (trap-within c FINST (nextPc c))
 
 -- an interrupt is due, or nothing
 due-within : (due : Due) (size consoleSize : ℕ) (c : Cpu) → AtMost 5 (dueTree due size consoleSize c)
 unfolding dueTree
 due-within (Now i) size consoleSize c = within-more 2 5 (omega arith) (deliver-within (awake c) (cleared i (c .clock .pending)) (interruptCode i) (c .regs .pc))
 due-within Nothing size consoleSize c =
-    within-if (c .system .waiting) ends-within (within-then 5 (settleTree size consoleSize c) (instruction-within (c .regs)) (settle-within size consoleSize c))
+    within-if (c .system .waiting) ends-within (within-then 5 (settleTree size consoleSize c) (executed-within c) (settle-within size consoleSize c))
 
--- a step: fetch, two operands and the two slots of a frame; or fetch, RTI's two reads and the two slots
+-- a step: fetch, two operands and the two slots of a frame; or fetch, RTI's two reads and the two slots; a floating instruction has one operand
 pub step-within : (next : Next) (size consoleSize : ℕ) (c : Cpu) → Within (λ e. 0) 5 (stepTree next size consoleSize c)
 unfolding stepTree
 step-within next size consoleSize c = due-within (dueOf (ticked next c)) size consoleSize (ticked next c)

@@ -1,6 +1,7 @@
 pub mod Within
 pub mod OneWalk
 pub mod FiveInstruction
+pub mod FiveFloating
 pub mod FiveStep
 pub mod Five
 pub mod FiveRun

@@ -1,5 +1,5 @@
 -- Sign extension, once over the width. Document 01, "Opcodes": "S and C forms extend the sign", "The upper 24 are imm, signed".
-use Prim.Native.Nat.{ℕ, zero, suc, _+_, _*_, _-_, _^_, _≤_, _<_}
+use Prim.Native.Nat.{ℕ, zero, suc, _+_, _*_, _-_, _%_, _^_, _≤_, _<_}
 use mathlib.Core.Path.{_≡_, refl}
 use mathlib.Core.Bool.{Bool, true, false}
 use native.Mathlib.Nat.{pow-suc}
@@ -11,7 +11,7 @@ use lib.IntN.{pos, negsuc}
 use mir.Syntax.{w32}
 use mir.Val.{toZ}
 use mir.Facts.{toZ-pos, toZ-neg}
-use Rattle.word.specs.Word.{extend, if_then_else_}
+use Rattle.word.specs.Word.{extend, difference, if_then_else_}
 
 -- a number x of n bits
 module _ (n : ℕ) {x : ℕ} where
@@ -47,3 +47,11 @@ module _ (n x : ℕ) (p : 0 < n) (l : n ≤ 32) (h : x < 2 ^ n) where
   -- the signed reading of the word is that of the n bits
   pub extend-signed : toZ w32 (extend n x) ≡ (if ltb x (2 ^ (n - 1)) then pos x else negsuc (2 ^ n - suc x))
   extend-signed = signed-by (ltb x (2 ^ (n - 1))) refl
+
+-- 24 bits without a test: half their range is added, and taken off again
+pub extend-shifted : (x : ℕ) → x < 2 ^ 24 → difference ((x + 2 ^ 23) % 2 ^ 24) (2 ^ 23) ≡ extend 24 x
+extend-shifted x h = go (ltb x (2 ^ 23)) refl
+  where
+    go : (b : Bool) → ltb x (2 ^ 23) ≡ b → difference ((x + 2 ^ 23) % 2 ^ 24) (2 ^ 23) ≡ extend 24 x
+    go true e = let c = ltb-true x (2 ^ 23) e in rw (← extend-clear 24 c) (omega (arith, c, h))
+    go false e = let c = ltb-false x (2 ^ 23) e in rw (← extend-set 24 c) (omega (arith, c, h))

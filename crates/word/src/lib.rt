@@ -130,14 +130,10 @@ pub fn extend16(x: u32) -> u32
     if x < 0x8000 { x } else { x + 0xFFFF_0000 }
 }
 
-// An instruction's upper 24 bits as a signed word.
+// An instruction's upper 24 bits as a signed word. Without a test: compilers then shift the word, and keep no copy of it.
 pub fn immediate(field: u32) -> u32
     requires { ⌜ field < 2 ^ 24 ⌝ }
     ensures { λ r. ⌜ r ≡ extend 24 field ⌝ }
 {
-    if field < 0x80_0000 {
-        field
-    } else {
-        field + 0xFF00_0000
-    }
+    difference((field + 0x80_0000) % 0x100_0000, 0x80_0000)
 }

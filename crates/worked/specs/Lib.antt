@@ -12,6 +12,9 @@ pub mod Traps
 pub mod Interrupts
 pub mod Pages
 pub mod Causes
+pub mod Doubles
+pub mod DoubleTransfers
+pub mod FloatingOpcodes
 pub mod Entries
 pub mod Loading
 pub mod Refusals

@@ -40,6 +40,13 @@ b s = s .cpu .regs .b
 abbrev pub c : Found → ℕ
 c s = s .cpu .regs .c
 
+-- document 02, item 7
+abbrev pub f : Found → ℕ
+f s = s .cpu .floats .f
+
+abbrev pub g : Found → ℕ
+g s = s .cpu .floats .g
+
 abbrev pub sp : Found → ℕ
 sp s = s .cpu .regs .sp
 
@@ -115,6 +122,10 @@ byte at s = getD (s .mem) at 0
 
 abbrev pub word : ℕ → Found → ℕ
 word at s = byte at s + 256 * byte (at + 1) s + 65536 * byte (at + 2) s + 16777216 * byte (at + 3) s
+
+-- the eight bytes
+abbrev pub long : ℕ → Found → ℕ
+long at s = word at s + 4294967296 * word (at + 4) s
 
 -- ---- a line
 

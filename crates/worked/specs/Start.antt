@@ -8,7 +8,7 @@ use Rattle.paging.specs.declared.Entry.{Entry}
 use Rattle.rules.specs.declared.Cpu.{Cpu}
 use Rattle.rules.specs.declared.Key.{Key}
 use Rattle.rules.specs.declared.Stop.{Stop}
-use Rattle.rules.specs.Record.{withB, withC, withSp, withPc, withCount, withRegs, withClock, withPdir, withPaging, withSpace, withFault}
+use Rattle.rules.specs.Record.{withB, withC, withSp, withPc, withCount, withRegs, withClock, withPdir, withPaging, withSpace, withFault, withFloats}
 use Rattle.rules.specs.Record.{withSystem, withStop, withWritten, withTimer, withTimeout, withTaken, withPending, withUsp, withKsp, withIvec, withUser, withIena, withWaiting}
 use Rattle.rules.specs.Load.{freshCpu}
 
@@ -63,7 +63,7 @@ enabled c = withSystem (withIena true (c .system)) c
 abbrev pub atRest : Cpu → Cpu
 atRest c = withSystem (withWaiting true (c .system)) c
 
--- the one place in this crate that names every field of a part of the record
+-- paging, on or off, from a directory
 abbrev putSpace : (paging : Bool) (pdir : ℕ) → Cpu → Cpu
 putSpace on x c = withSpace (withPdir x (withPaging on (c .space))) c
 
@@ -80,6 +80,24 @@ stoppedFor x c = withStop x c
 -- after a fault: its cause, and its address in vadr
 abbrev pub afterFault : Cause → ℕ → Cpu → Cpu
 afterFault x address c = withFault (record { code = 0; cause = x; address = address }) c
+
+-- document 02, item 7: f and g; and the new mode, the one place in this crate that names every group of the record
+abbrev pub putFloats : (f g : ℕ) → Cpu → Cpu
+putFloats x y c = withFloats (record { f = x; g = y }) c
+
+abbrev pub withDoubles : Cpu → Cpu
+withDoubles c = record {
+  regs = c .regs;
+  clock = c .clock;
+  vadr = c .vadr;
+  space = c .space;
+  system = c .system;
+  cause = c .cause;
+  stop = c .stop;
+  written = c .written;
+  model = record { doubles = true };
+  floats = c .floats;
+}
 
 -- a key: its step number and its byte
 abbrev pub key : (step byte : ℕ) → Key

@@ -19,6 +19,8 @@ const GIVEN: usize = 32;
 const FILL: usize = 36;
 const NUMBERS: usize = 56;
 const FIRST_NUMBER: usize = 60;
+/// The place of the mode among the numbers; f and g follow.
+const MODE: usize = 22;
 /// Where `save` has its parts: two slots, two chunks, five console bytes.
 const SLOT: usize = FIRST_NUMBER + 8 * NAMES.len();
 const CHUNK: usize = SLOT + 32;
@@ -131,11 +133,13 @@ pub fn fields() -> Vec<Vec<u8>> {
 }
 
 /// Too large for the record's fields: 13 words, 6 flags and marks, the stop
-/// reason, the cause.
+/// reason, the cause, the mode.
 fn numbers() -> Vec<Vec<u8>> {
     let place = |nth: usize| FIRST_NUMBER + 8 * nth;
-    let mut list: Vec<Vec<u8>> = (0..21).map(|nth| with(place(nth) + 4, 1)).collect();
+    let narrow = (0..21).chain([MODE]);
+    let mut list: Vec<Vec<u8>> = narrow.map(|nth| with(place(nth) + 4, 1)).collect();
     list.extend((13..19).map(|flag| with(place(flag), 2)));
+    list.extend([2, 0x100].map(|mode| with(place(MODE), mode)));
     list.extend([4, 0x100].map(|stop| with(place(19), stop)));
     list.extend([8, 0x100, u32::MAX].map(|cause| with(place(20), cause)));
     list
@@ -161,6 +165,9 @@ pub fn unbroken() -> Vec<Vec<u8>> {
         changed(with(48, u32::MAX), 52, u32::MAX),
         with(FIRST_NUMBER + 8 * 20, 7),
         with(FIRST_NUMBER + 8 * 21 + 4, u32::MAX),
+        with(FIRST_NUMBER + 8 * MODE, 1),
+        with(FIRST_NUMBER + 8 * MODE + 12, u32::MAX),
+        with(FIRST_NUMBER + 8 * MODE + 20, u32::MAX),
         with(SLOT + 16, u32::MAX),
         with(CHUNK, 2),
         with(SECOND_CHUNK, 4),

@@ -36,6 +36,7 @@ macro_rules! numbers {
 numbers! {
     a, b, c, sp, usp, ksp, pc, ivec, pdir, vadr, timer, timeout, kbchar,
     user, iena, paging, waiting, key_pending, timer_pending, stop, cause, count,
+    mode, f, g,
 }
 
 /// A field as a number, and back.

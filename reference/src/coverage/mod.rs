@@ -2,6 +2,7 @@
 //! shows nothing about it.
 
 mod causes;
+mod floats;
 mod marks;
 mod opcodes;
 mod walks;
@@ -9,6 +10,7 @@ mod walks;
 use crate::types::{Access, Registers, Stop, Trap};
 use crate::walks::Walks;
 use causes::Causes;
+use floats::Floats;
 use marks::Marks;
 use std::fmt::Arguments;
 use walks::Walked;
@@ -48,8 +50,8 @@ pub struct Coverage {
     pub runs: u64,
     pub loads: u64,
     pub steps: u64,
-    /// Executed instructions by opcode.
-    pub opcodes: [BySetting; 256],
+    /// Executed instructions by item 7's mode and opcode.
+    pub opcodes: [[BySetting; 256]; 2],
     pub hits: ByAccess,
     pub walks_kept: ByAccess,
     pub walks_faulted: ByAccess,
@@ -70,6 +72,7 @@ pub struct Coverage {
     marks: Marks,
     pub causes: Causes,
     pub walked: Walked,
+    pub floats: Floats,
 }
 
 impl Default for Coverage {
@@ -78,7 +81,7 @@ impl Default for Coverage {
             runs: 0,
             loads: 0,
             steps: 0,
-            opcodes: [[[[0; 2]; 2]; 2]; 256],
+            opcodes: [[[[[0; 2]; 2]; 2]; 256]; 2],
             hits: [[0; 2]; 3],
             walks_kept: [[0; 2]; 3],
             walks_faulted: [[0; 2]; 3],
@@ -94,6 +97,7 @@ impl Default for Coverage {
             marks: Marks::default(),
             causes: Causes::default(),
             walked: Walked::default(),
+            floats: Floats::default(),
         }
     }
 }
@@ -126,7 +130,7 @@ impl Coverage {
     /// An instruction, from the registers it was fetched with.
     pub fn executed(&mut self, code: u8, regs: &Registers, faulted: bool) {
         let [mode, paging, end] = [regs.user, regs.paging, faulted].map(usize::from);
-        self.opcodes[usize::from(code)][mode][paging][end] += 1;
+        self.opcodes[usize::from(regs.mode)][usize::from(code)][mode][paging][end] += 1;
     }
 
     /// A step, by the registers before and after it.
@@ -158,6 +162,7 @@ impl Coverage {
         self.added += other.added;
         self.replaced += other.replaced;
         let (mine, theirs) = (self.opcodes.as_flattened_mut(), other.opcodes.as_flattened());
+        let (mine, theirs) = (mine.as_flattened_mut(), theirs.as_flattened());
         sum(mine.as_flattened_mut().as_flattened_mut(), theirs.as_flattened().as_flattened());
         sum(self.hits.as_flattened_mut(), other.hits.as_flattened());
         sum(self.walks_kept.as_flattened_mut(), other.walks_kept.as_flattened());
@@ -172,6 +177,7 @@ impl Coverage {
         self.marks.add(&other.marks);
         self.causes.add(&other.causes);
         self.walked.add(&other.walked);
+        self.floats.add(&other.floats);
     }
 }
 
@@ -248,6 +254,7 @@ impl Coverage {
         self.marks.visit(&mut visit);
         self.causes.visit(&mut visit);
         self.walked.visit(&mut visit);
+        self.floats.visit(&mut visit);
     }
 
     /// Hits, walks and entries.

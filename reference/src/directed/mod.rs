@@ -5,6 +5,10 @@ pub mod addresses;
 pub mod causes;
 pub mod clock;
 pub mod division;
+pub mod double_moves;
+pub mod double_traps;
+pub mod double_values;
+pub mod doubles;
 pub mod every;
 pub mod large;
 pub mod marks;
@@ -33,7 +37,12 @@ pub fn all() -> Vec<Named> {
         .chain(named(walks::cases()))
         .chain(named(opcodes::cases()))
         .chain(named(tables::cases()))
+        .chain(with_doubles(tables::cases()))
         .chain(division::cases())
+        .chain(doubles::cases())
+        .chain(double_values::cases())
+        .chain(double_moves::cases())
+        .chain(double_traps::cases())
         .chain(every::cases())
         .chain(refusals::cases())
         .chain(named(large::cases()))
@@ -42,6 +51,15 @@ pub fn all() -> Vec<Named> {
 
 fn named(list: Vec<(&'static str, Runs)>) -> impl Iterator<Item = Named> {
     list.into_iter().map(|(name, runs)| (name.to_string(), runs.into()))
+}
+
+/// The same in the mode with doubles, which keeps the old opcodes.
+fn with_doubles(list: Vec<(&'static str, Runs)>) -> impl Iterator<Item = Named> {
+    list.into_iter().map(|(name, mut runs)| {
+        let regs = &mut runs.record.regs;
+        (regs.mode, regs.f, regs.g) = (true, 5, 6);
+        (format!("{name}, with doubles"), runs.into())
+    })
 }
 
 /// Where these cases have their program, handler and stacks.

@@ -26,10 +26,14 @@ impl Machine {
 
     pub fn branch(&mut self, cond: Cond, imm: u32) {
         if self.holds(cond) {
-            let own = self.regs.pc.wrapping_sub(4);
-            let start = self.pick(Mistake::BranchFromOwnAddress, own, self.regs.pc);
-            self.set_pc(start.wrapping_add(imm));
+            self.go_to_branch(imm);
         }
+    }
+
+    pub fn go_to_branch(&mut self, imm: u32) {
+        let own = self.regs.pc.wrapping_sub(4);
+        let start = self.pick(Mistake::BranchFromOwnAddress, own, self.regs.pc);
+        self.set_pc(start.wrapping_add(imm));
     }
 
     /// pc + imm + (a shifted right by 2, unsigned).

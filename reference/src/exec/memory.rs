@@ -15,7 +15,7 @@ fn size_of(width: Width) -> u32 {
 }
 
 impl Machine {
-    fn address(&self, base: Base, imm: u32) -> u32 {
+    pub fn address(&self, base: Base, imm: u32) -> u32 {
         let start = match base {
             Base::Sp => self.regs.sp,
             Base::Pc => self.regs.pc,

@@ -3,15 +3,21 @@
 
 mod arith;
 mod block;
+mod floats;
 mod flow;
 mod memory;
 mod system;
 
 use crate::machine::Machine;
 use crate::mistake::Mistake;
-use crate::opcodes::decode::{decode, Op, Reg, System};
+use crate::opcodes::decode::{decode_in, Op, Reg, System};
 use crate::types::Trap;
 use crate::words::{extend_half, field, immediate};
+
+/// Planted mistake only: the opcodes of 000's section "math".
+fn is_math(code: u8) -> bool {
+    (0xbc..=0xd0).contains(&code) && decode_in(code, true).is_none()
+}
 
 impl Machine {
     pub fn execute(&mut self, word: u32) -> Result<(), Trap> {
@@ -32,6 +38,7 @@ impl Machine {
             Op::Arith(arith, source) => self.arithmetic(arith, source, word),
             Op::Block(block) => self.block(block),
             Op::System(system) => self.system(system, imm),
+            Op::Float(float) => self.float(float, imm),
             Op::Lev => self.lev(imm),
             Op::Jsr => self.call(self.regs.pc.wrapping_add(imm)),
             Op::Jsra => {
@@ -71,14 +78,18 @@ impl Machine {
         }
     }
 
+    /// The old mode keeps document 01's table.
     fn decoded(&self, code: u8) -> Option<Op> {
-        if let Some(Mistake::As(byte, other)) = self.mistake {
-            return decode(if code == byte { other } else { code });
-        }
-        match code {
-            0x99 if self.makes(Mistake::BinIllegal) => None,
-            0xb3..=0xbb if self.makes(Mistake::NetworkNops) => Some(Op::Nop),
-            _ => decode(code),
+        let mode = self.regs.mode;
+        match self.mistake {
+            Some(Mistake::As(byte, other, of)) if (byte, of) == (code, mode) => {
+                decode_in(other, true)
+            }
+            Some(Mistake::BinIllegal) if code == 0x99 => None,
+            Some(Mistake::NetworkNops) if (0xb3..=0xbb).contains(&code) => Some(Op::Nop),
+            Some(Mistake::ModeIgnored) => decode_in(code, true),
+            Some(Mistake::MathLegal) if mode && is_math(code) => Some(Op::Nop),
+            _ => decode_in(code, mode),
         }
     }
 

@@ -1,6 +1,8 @@
-//! The decoder: all 256 bytes, each an operation or illegal (`None`). Written
-//! by hand and held against the derived sets by the tests.
+//! The decoder: all 256 bytes, each an operation or illegal (`None`), in the old
+//! mode and in that with doubles. Written by hand and held against the derived
+//! sets by the tests.
 
+use super::floats::{decode_float, Float};
 use Base::*;
 use Op::*;
 use Source::*;
@@ -125,6 +127,8 @@ pub enum Op {
     Branch(Cond),
     Block(Block),
     System(System),
+    /// Only in the mode with doubles.
+    Float(Float),
 }
 
 const WIDTHS: [Width; 5] =
@@ -147,7 +151,13 @@ const ARITHS: [Arith; 13] = [
     Arith::Sru,
 ];
 
-/// The operation of a byte; `None` is illegal.
+/// The operation of a byte in the old mode, or in that with doubles.
+pub fn decode_in(code: u8, mode: bool) -> Option<Op> {
+    let added = || decode_float(code).filter(|_| mode).map(Op::Float);
+    decode(code).or_else(added)
+}
+
+/// The operation of a byte in the old mode; `None` is illegal.
 pub fn decode(code: u8) -> Option<Op> {
     let nth = |first: u8| usize::from(code - first);
     Some(match code {

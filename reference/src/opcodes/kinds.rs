@@ -1,6 +1,7 @@
 //! What an operation does, as far as cases and planted mistakes ask.
 
-use super::decode::{Arith, Block, Op, Source, System, Width};
+use super::decode::{Arith, Base, Block, Op, Source, System, Width};
+use super::floats::Float;
 
 /// Whether an operation can fault in execution in kernel mode: it reaches
 /// memory, divides, sets pdir, or is TRAP. (A privileged one can in user mode.)
@@ -9,6 +10,7 @@ pub fn can_fault_in_kernel(op: Op) -> bool {
         Op::Trap => true,
         Op::Arith(Arith::Div | Arith::Dvu | Arith::Mod | Arith::Mdu, _) => true,
         Op::System(system) => matches!(system, System::Rti | System::Pdir),
+        Op::Float(Float::Cdi | Float::Cdu) => true,
         _ => reads(op) || writes(op),
     }
 }
@@ -17,6 +19,7 @@ pub fn can_fault_in_kernel(op: Op) -> bool {
 pub fn reads(op: Op) -> bool {
     match op {
         Op::Load(..) | Op::Pop(_) | Op::Lev => true,
+        Op::Float(float) => matches!(float, Float::Load(..) | Float::Pop(_)),
         Op::Arith(_, source) => source == Source::Stack,
         Op::Block(block) => block != Block::Mset,
         _ => false,
@@ -26,6 +29,7 @@ pub fn reads(op: Op) -> bool {
 pub fn writes(op: Op) -> bool {
     match op {
         Op::Store(..) | Op::Push(_) | Op::Pshi | Op::Jsr | Op::Jsra => true,
+        Op::Float(float) => matches!(float, Float::Store(..) | Float::Push(_)),
         Op::Block(block) => matches!(block, Block::Mcpy | Block::Mset),
         _ => false,
     }
@@ -38,6 +42,7 @@ pub fn drops_bits(op: Op) -> bool {
             !matches!(width, Width::Byte | Width::SignedByte)
         }
         Op::Arith(_, source) => source == Source::Stack,
+        Op::Float(float) => matches!(float, Float::Load(..) | Float::Store(..)),
         _ => false,
     }
 }
@@ -51,6 +56,8 @@ pub fn takes_imm(op: Op) -> bool {
         Op::Ent | Op::Lev | Op::Jmp | Op::Jmpi | Op::Jsr | Op::Lea | Op::Leag | Op::Pshi => true,
         Op::Arith(Arith::Shl | Arith::Shr | Arith::Sru, source) => source == Source::Stack,
         Op::Arith(_, source) => source != Source::Register,
+        Op::Float(Float::LoadImm(_) | Float::Branch(_)) => true,
+        Op::Float(_) => base_of(op).is_some(),
         _ => false,
     }
 }
@@ -59,6 +66,7 @@ pub fn takes_imm(op: Op) -> bool {
 pub fn sets_target(op: Op) -> bool {
     match op {
         Op::Branch(_) | Op::Jmp | Op::Jmpi | Op::Jsr | Op::Jsra | Op::Lev => true,
+        Op::Float(Float::Branch(_)) => true,
         Op::System(system) => matches!(system, System::Rti | System::Ivec),
         _ => false,
     }
@@ -70,5 +78,14 @@ pub fn sets_stack(op: Op) -> bool {
         Op::Ent | Op::Lev => true,
         Op::System(system) => matches!(system, System::Ssp | System::Susp),
         _ => false,
+    }
+}
+
+/// What a load's or store's immediate is added to.
+pub fn base_of(op: Op) -> Option<Base> {
+    match op {
+        Op::Load(_, base, _) | Op::Store(base, _) => Some(base),
+        Op::Float(Float::Load(_, base, _) | Float::Store(base, _)) => Some(base),
+        _ => None,
     }
 }

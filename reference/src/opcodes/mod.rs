@@ -2,6 +2,7 @@
 //! derived from it, and the decoder the machine uses.
 
 pub mod decode;
+pub mod floats;
 pub mod kinds;
 pub mod sets;
 pub mod table;

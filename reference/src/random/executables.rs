@@ -47,9 +47,9 @@ fn image(rng: &mut Rng, number: u64) -> Image {
     } else {
         Space::unpaged(rng, MEMORY as u32)
     };
-    put_program(rng, &space, &mut memory, number);
+    put_program(rng, &space, &mut memory, number, false);
     scatter(rng, &mut memory);
-    let regs = registers(rng, &space, paging);
+    let regs = registers(rng, &space, paging, false);
     let entry = space.code_frame * PAGE + SETUP;
     for (nth, word) in setup(rng, &space, &regs).iter().enumerate() {
         words::put(&mut memory, entry + 4 * nth as u32, 4, *word);
@@ -59,7 +59,7 @@ fn image(rng: &mut Rng, number: u64) -> Image {
 
 /// Leads from the fresh record to one like `regs`, and to the program.
 fn setup(rng: &mut Rng, space: &Space, regs: &Registers) -> Vec<u32> {
-    let mut writer = Writer { rng, space, words: Vec::new() };
+    let mut writer = Writer::new(rng, space, false);
     let set = [("SUSP", regs.usp), ("SSP", regs.ksp), ("IVEC", regs.ivec), ("TIME", regs.timeout)];
     for (name, value) in set {
         writer.constant(Reg::A, value);
@@ -140,7 +140,7 @@ fn console_program(rng: &mut Rng) -> Vec<u8> {
     let random = 1 + rng.below(3 * console);
     let count = rng.pick(&[1, 5, about, about, random]);
     let space = Space::unpaged(rng, MEMORY as u32);
-    let mut writer = Writer { rng, space: &space, words: Vec::new() };
+    let mut writer = Writer::new(rng, &space, false);
     writer.op("PSHI", 0);
     writer.constant(Reg::C, count);
     let again = writer.words.len();

@@ -39,7 +39,7 @@ fn body(rng: &mut Rng, memory_length: usize) -> Vec<u8> {
     };
     let space = Space::unpaged(rng, 4096);
     let mut bytes: Vec<u8> =
-        story(rng, &space, 8).iter().flat_map(|word| word.to_le_bytes()).collect();
+        story(rng, &space, false, 8).iter().flat_map(|word| word.to_le_bytes()).collect();
     bytes.resize(length, 0x9b);
     bytes
 }

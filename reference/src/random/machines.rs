@@ -171,18 +171,21 @@ fn recount(rng: &mut Rng, file: &mut Vec<u8>) {
 /// A number of the register block, mostly one that is judged.
 fn change_number(rng: &mut Rng, restore: &mut Restore) {
     let nth = rng.below(NAMES.len() as u32) as usize;
-    let nth =
-        if rng.percent(70) { rng.pick(&[3, 4, 5, 6, 7, 8, 13, 16, 17, 18, 19, 20]) } else { nth };
+    let nth = if rng.percent(70) {
+        rng.pick(&[3, 4, 5, 6, 7, 8, 13, 16, 17, 18, 19, 20, 22])
+    } else {
+        nth
+    };
     let at = HEADER as u32 + widths()[..nth].iter().sum::<usize>() as u32;
-    let last = nth == NAMES.len() - 1;
+    let long = widths()[nth] == 8;
     let value = match NAMES[nth] {
         "pdir" => rng.pick(&[restore.memory_length as u32, PAGE / 2, 0, 0xffff_f000]),
         "sp" | "usp" | "ksp" | "pc" | "ivec" => get(&restore.file, at) ^ (1 << rng.below(5)),
-        _ if last => 0,
+        _ if long => 0,
         _ => rng.pick(&[0, 1, 2, 3, 4, 5, 7, 8, 9, 0x100, 0x101, 1 << 31, u32::MAX]),
     };
     put(&mut restore.file, at, value);
-    if last {
+    if long {
         put(&mut restore.file, at + 4, rng.pick(&[0, 0x7fff_ffff, 0x8000_0000, u32::MAX]));
     }
 }

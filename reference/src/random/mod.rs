@@ -1,6 +1,7 @@
 //! Random cases. Everything follows from a seed and a case's number.
 
 pub mod calls;
+pub mod doubles;
 pub mod executables;
 pub mod files;
 mod interrupts;

@@ -4,19 +4,36 @@
 use super::rng::Rng;
 use super::space::{bits, Space};
 use super::values::number;
-use crate::opcodes::decode::{decode, Base, Op, Reg, Source, System};
-use crate::opcodes::kinds::can_fault_in_kernel;
-use crate::opcodes::sets::{code_of, name_of, LEGAL};
+use crate::double::NAN;
+use crate::opcodes::decode::{decode_in, Base, Op, Reg, Source, System};
+use crate::opcodes::floats::{Float, FloatReg};
+use crate::opcodes::kinds::{base_of, can_fault_in_kernel};
+use crate::opcodes::sets::{code_of, name_of, FLOATING, LEGAL, LEGAL_WITH_DOUBLES};
 use crate::types::PAGE;
 use crate::words::instruction;
 
 pub struct Writer<'a> {
     pub rng: &'a mut Rng,
     pub space: &'a Space,
+    /// Whether the program is for the mode with doubles.
+    pub mode: bool,
     pub words: Vec<u32>,
 }
 
-impl Writer<'_> {
+impl<'a> Writer<'a> {
+    pub fn new(rng: &'a mut Rng, space: &'a Space, mode: bool) -> Writer<'a> {
+        Writer { rng, space, mode, words: Vec::new() }
+    }
+
+    /// An opcode that is legal in the program's mode.
+    fn legal_code(&mut self) -> u8 {
+        if self.mode {
+            self.rng.pick(&LEGAL_WITH_DOUBLES)
+        } else {
+            self.rng.pick(&LEGAL)
+        }
+    }
+
     /// A word with this mnemonic and operand.
     pub fn op(&mut self, name: &str, imm: i32) {
         self.words.push(instruction(code_of(name), imm as u32));
@@ -24,7 +41,7 @@ impl Writer<'_> {
 
     /// A word with this opcode and an immediate that suits it.
     pub fn suited(&mut self, code: u8) {
-        let imm = decode(code).map_or(0, |op| self.immediate(op));
+        let imm = decode_in(code, true).map_or(0, |op| self.immediate(op));
         let imm = if self.rng.percent(4) { self.rng.word() as i32 } else { imm };
         self.words.push(instruction(code, imm as u32));
     }
@@ -32,13 +49,18 @@ impl Writer<'_> {
     fn immediate(&mut self, op: Op) -> i32 {
         let odd = if self.rng.percent(10) { self.rng.between(-3, 3) } else { 0 };
         let memory_size = self.space.memory_size;
+        if let Some(base) = base_of(op) {
+            let even = match base {
+                Base::Sp => 4 * self.rng.between(-6, 12),
+                Base::Pc => 4 * self.rng.between(-20, 200),
+                Base::RegA | Base::RegB => self.rng.between(-8, 8),
+            };
+            return even.wrapping_add(odd);
+        }
         let even = match op {
-            Op::Load(_, Base::Sp, _) | Op::Store(Base::Sp, _) | Op::Arith(_, Source::Stack) => {
-                4 * self.rng.between(-6, 12)
-            }
-            Op::Load(_, Base::Pc, _) | Op::Store(Base::Pc, _) => 4 * self.rng.between(-20, 200),
-            Op::Load(..) | Op::Store(..) => self.rng.between(-8, 8),
+            Op::Arith(_, Source::Stack) => 4 * self.rng.between(-6, 12),
             Op::Branch(_) | Op::Jmp | Op::Jsr => 4 * self.rng.between(-6, 8),
+            Op::Float(Float::Branch(_)) => 4 * self.rng.between(-6, 8),
             Op::Jmpi => 4 * self.rng.between(0, 6),
             Op::Ent | Op::Lev => 8 * self.rng.between(-3, 3),
             Op::LoadImm(_) if self.rng.percent(50) => self.space.address(self.rng) as i32,
@@ -69,7 +91,8 @@ impl Writer<'_> {
 
     /// One gesture of a program.
     pub fn gesture(&mut self) {
-        match self.rng.weighted(&[36, 12, 8, 8, 6, 9, 6, 4, 4, 2, 8, 2, 2, 4]) {
+        let (faults, doubles) = if self.mode { (4, 40) } else { (2, 1) };
+        match self.rng.weighted(&[36, 12, 8, 8, 6, 9, 6, 4, 4, 2, 8, 2, faults, 4, doubles]) {
             0 => self.legal(),
             1 => self.pointed_store(),
             2 => self.pointed_load(),
@@ -83,21 +106,28 @@ impl Writer<'_> {
             10 => self.arithmetic(),
             11 => self.block_on_tables(),
             12 => self.faulting(),
-            _ => self.masked_stretch(),
+            13 => self.masked_stretch(),
+            _ => self.floating(),
         }
     }
 
     /// Any opcode that can fault, with an operand that makes it.
     fn faulting(&mut self) {
         const BEYOND: i32 = 0x7f_f000;
+        let added = self.mode && self.rng.percent(50);
         let code = loop {
-            let code = self.rng.pick(&LEGAL);
-            if decode(code).is_some_and(can_fault_in_kernel) {
+            let code = if added { self.rng.pick(&FLOATING) } else { self.legal_code() };
+            if decode_in(code, true).is_some_and(can_fault_in_kernel) {
                 break code;
             }
         };
         let name = name_of(code);
-        match decode(code) {
+        match decode_in(code, true) {
+            Some(Op::Float(Float::Cdi | Float::Cdu)) => {
+                self.double_constant(FloatReg::F, NAN);
+                self.op(name, 0);
+            }
+            Some(op) if base_of(op).is_some() => self.op(name, BEYOND),
             Some(Op::Arith(_, Source::Immediate)) => self.op(name, 0),
             Some(Op::Arith(_, Source::Register)) => {
                 self.constant(Reg::B, 0);
@@ -107,7 +137,7 @@ impl Writer<'_> {
                 self.constant(Reg::A, BEYOND as u32);
                 self.op(name, 0);
             }
-            Some(Op::Load(..) | Op::Store(..) | Op::Arith(..)) => self.op(name, BEYOND),
+            Some(Op::Arith(..)) => self.op(name, BEYOND),
             _ => {
                 self.op("ENT", BEYOND);
                 self.op(name, 0);
@@ -118,7 +148,7 @@ impl Writer<'_> {
 
     /// Any legal opcode, HALT seldom.
     fn legal(&mut self) {
-        let mut code = self.rng.pick(&LEGAL);
+        let mut code = self.legal_code();
         if code == 0 && self.rng.percent(90) {
             code = code_of("ADDI");
         }
@@ -180,11 +210,15 @@ impl Writer<'_> {
         self.constant(Reg::B, right);
         let code = loop {
             let code = self.rng.pick(&LEGAL);
-            if matches!(decode(code), Some(Op::Arith(..) | Op::Compare(_) | Op::Branch(_))) {
+            if matches!(
+                decode_in(code, false),
+                Some(Op::Arith(..) | Op::Compare(_) | Op::Branch(_))
+            ) {
                 break code;
             }
         };
-        if matches!(decode(code), Some(Op::Arith(_, Source::Stack))) && self.rng.percent(70) {
+        let stacked = matches!(decode_in(code, false), Some(Op::Arith(_, Source::Stack)));
+        if stacked && self.rng.percent(70) {
             self.op("PSHB", 0);
             return self.op(name_of(code), 0);
         }
@@ -229,8 +263,8 @@ impl Writer<'_> {
 }
 
 /// A program of about `length` words.
-pub fn story(rng: &mut Rng, space: &Space, length: usize) -> Vec<u32> {
-    let mut writer = Writer { rng, space, words: Vec::new() };
+pub fn story(rng: &mut Rng, space: &Space, mode: bool, length: usize) -> Vec<u32> {
+    let mut writer = Writer::new(rng, space, mode);
     if space.wide.is_some() && writer.rng.percent(50) {
         writer.sweep();
     }
@@ -241,8 +275,8 @@ pub fn story(rng: &mut Rng, space: &Space, length: usize) -> Vec<u32> {
 }
 
 /// Opcode bytes in a row from `first` on, all 256, each with a suited operand.
-pub fn drill(rng: &mut Rng, space: &Space, first: u8, length: usize) -> Vec<u32> {
-    let mut writer = Writer { rng, space, words: Vec::new() };
+pub fn drill(rng: &mut Rng, space: &Space, mode: bool, first: u8, length: usize) -> Vec<u32> {
+    let mut writer = Writer::new(rng, space, mode);
     for nth in 0..length {
         writer.suited(first.wrapping_add(nth as u8));
     }
@@ -255,8 +289,8 @@ pub fn noise(rng: &mut Rng, length: usize) -> Vec<u32> {
 }
 
 /// A handler: a few gestures, then RTI or whatever follows.
-pub fn handler(rng: &mut Rng, space: &Space) -> Vec<u32> {
-    let mut writer = Writer { rng, space, words: Vec::new() };
+pub fn handler(rng: &mut Rng, space: &Space, mode: bool) -> Vec<u32> {
+    let mut writer = Writer::new(rng, space, mode);
     for _ in 0..writer.rng.below(3) {
         writer.pick_op(&["LVAD", "BIN", "CYC", "LUSP", "MSIZ", "NOP", "BOUT", "POPB", "LL"]);
     }

@@ -1,11 +1,12 @@
 //! Random records for a given address space.
 
+use super::doubles::double;
 use super::rng::Rng;
 use super::space::{Space, HANDLER, PROGRAM, STACK_TOP};
 use super::values::{number, step_count};
 use crate::types::{Buffer, Cause, Entry, Registers, Stop, CAPACITY, NO_KEY, PAGE};
 
-pub fn registers(rng: &mut Rng, space: &Space, paging: bool) -> Registers {
+pub fn registers(rng: &mut Rng, space: &Space, paging: bool, mode: bool) -> Registers {
     let [a, b] = [0; 2].map(|_| {
         if rng.percent(50) {
             space.address(rng)
@@ -41,6 +42,9 @@ pub fn registers(rng: &mut Rng, space: &Space, paging: bool) -> Registers {
         key_pending: rng.percent(15),
         timer_pending: rng.percent(15),
         cause: rng.pick(&Cause::ALL),
+        mode,
+        f: double(rng),
+        g: double(rng),
     }
 }
 

@@ -1,5 +1,6 @@
 //! A whole random case: memory, console, record, runs; or a file to load.
 
+use super::doubles::extreme;
 use super::keys::{bad_budget, budget, change_keys, key_list};
 use super::program::{drill, handler, noise, story};
 use super::record::{registers, stale_buffer};
@@ -61,15 +62,19 @@ pub fn runs_case_of(rng: &mut Rng, number: u64, frames: u32, purpose: Purpose) -
     } else {
         Space::unpaged(rng, memory_size)
     };
-    put_program(rng, &space, &mut memory, number);
+    let mode = rng.percent(50);
+    put_program(rng, &space, &mut memory, number, mode);
     scatter(rng, &mut memory);
-    let regs = registers(rng, &space, paging);
+    let regs = registers(rng, &space, paging, mode);
     let mut case = Runs { memory, ..Runs::new(0, regs) };
     if purpose == Purpose::Any && rng.percent(25) {
         case.record.buffer = stale_buffer(rng, &space);
     }
     if paging && rng.percent(2) {
         put_many_walks(rng, &space, &mut case);
+    }
+    if mode && rng.percent(20) {
+        put_extremes(rng, &space, &mut case);
     }
     case.console = vec![0; rng.pick(&[0, 1, 3, 16, 200])];
     put_console_and_keys(rng, &mut case);
@@ -90,12 +95,23 @@ fn put_many_walks(rng: &mut Rng, space: &Space, case: &mut Runs) {
     words::put(&mut case.memory, space.code_frame * PAGE + PROGRAM, 4, word);
 }
 
+/// A first step that operates on doubles of which something comes that is no usual
+/// number.
+fn put_extremes(rng: &mut Rng, space: &Space, case: &mut Runs) {
+    let (f, g, name) = extreme(rng);
+    let regs = &mut case.record.regs;
+    *regs = Registers { f, g, pc: space.code + PROGRAM, ..regs.clone() };
+    (regs.key_pending, regs.timer_pending) = (false, false);
+    let word = instruction(code_of(name), 0);
+    words::put(&mut case.memory, space.code_frame * PAGE + PROGRAM, 4, word);
+}
+
 /// The program and its trap handler, in the space's frame for them.
-pub fn put_program(rng: &mut Rng, space: &Space, memory: &mut [u8], number: u64) {
+pub fn put_program(rng: &mut Rng, space: &Space, memory: &mut [u8], number: u64, mode: bool) {
     let length = rng.pick(&[6, 20, 60, 200]);
     let mut program = match rng.weighted(&[5, 14, 1]) {
-        0 => drill(rng, space, (number as u8).wrapping_mul(37), length),
-        1 => story(rng, space, length),
+        0 => drill(rng, space, mode, (number as u8).wrapping_mul(37), length),
+        1 => story(rng, space, mode, length),
         _ => noise(rng, length),
     };
     if rng.percent(70) {
@@ -103,7 +119,7 @@ pub fn put_program(rng: &mut Rng, space: &Space, memory: &mut [u8], number: u64)
         let back = -4 * (program.len() as i32 + 1);
         program.push(instruction(code_of("JMP"), back as u32));
     }
-    let handler = handler(rng, space);
+    let handler = handler(rng, space, mode);
     let frame = space.code_frame * PAGE;
     for (start, list) in [(PROGRAM, program), (HANDLER, handler)] {
         for (nth, word) in list.iter().enumerate() {

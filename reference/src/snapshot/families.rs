@@ -2,7 +2,7 @@
 //! what they judge.
 
 use super::mistake::{bounded, Loose, SnapshotMistake};
-use crate::case::numbers::NAMES;
+use crate::case::numbers::{widths, NAMES};
 use crate::families::{family, Family};
 use crate::mistake::Mistake;
 
@@ -12,10 +12,14 @@ pub fn file_families() -> Vec<Family<SnapshotMistake>> {
     let numbers = NAMES.len();
     let flags: Vec<usize> = bounded().map(|(nth, _)| nth).collect();
     let wide = (0..numbers).filter(move |nth| !flags.contains(nth));
+    let long =
+        || widths().into_iter().enumerate().filter(|number| number.1 == 8).map(|number| number.0);
     vec![
         family("number [0] and the next are exchanged", (0..numbers - 1).map(NumbersExchanged)),
         family("number [0] is 0", (0..numbers).map(NumberForgotten)),
         family("number [0] loses its higher half", wide.map(NumberShort)),
+        family("number [0] of 64 bits takes a word", long().map(NumberIsWord)),
+        family("number [0] of 64 bits has its halves exchanged", long().map(HalvesExchanged)),
         family("word [0] of the header and the next are exchanged", (0..6).map(HeaderExchanged)),
         family("word [0] of an entry and the next are exchanged", (0..3).map(EntryExchanged)),
         family("block [0] and the next are exchanged", (0..3).map(BlocksExchanged)),

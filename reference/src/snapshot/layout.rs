@@ -95,7 +95,7 @@ pub fn numbers_in_order(mistake: Option<SnapshotMistake>) -> Vec<(usize, usize)>
     let last = list.len() - 1;
     match mistake {
         Some(NumbersExchanged(nth)) => list.swap(nth, nth + 1),
-        Some(CountIsWord) => list[last].1 = 4,
+        Some(NumberIsWord(nth)) => list[nth].1 = 4,
         // Keys taken follow the list.
         Some(KeysSaved) => list.push((last + 1, 8)),
         _ => {}

@@ -2,6 +2,7 @@
 //! and of the decisions on it, slips in each clause.
 
 use crate::case::numbers::{widths, NAMES};
+use crate::double::{is_nan, NAN};
 use crate::mistake::{mistakes, Mistake};
 use crate::types::{Cause, Registers, Stop};
 
@@ -9,9 +10,10 @@ mistakes! {
     SnapshotMistake:
     // The file, saved and read alike.
     HighByteFirst: "numbers have their highest byte first",
-    HighHalfFirst: "the step count has its higher half first",
-    CountIsWord: "the step count takes a word",
-    KeysSaved: "keys taken follow the step count",
+    HighHalfFirst: "numbers of 64 bits have their higher half first",
+    KeysSaved: "keys taken follow the registers",
+    FloatsCanonical: "a NaN in f or g becomes canonical",
+    FloatsByMode: "f and g are kept with doubles only",
     PagesAreBytes: "the count of pages is M",
     OffsetsAfterHeader: "offsets count from the header's end",
     ConsolePadded: "memory begins at a multiple of 4",
@@ -62,6 +64,9 @@ mistakes! {
     MarkStoppedJudged: "a mark in a stopped machine is refused",
     StoppedJudged: "a stopped machine is refused",
     FreshCountJudged: "a stopped machine with step count 0 is refused",
+    NanJudged: "a NaN in f or g is refused",
+    FloatsJudged: "f or g not 0 in the old mode is refused",
+    ModeJudged: "the mode with doubles is refused",
     // Reading: what is left.
     LaterConsoleZeroed: "console bytes after the read ones are zeroed",
     RefusedKbchar: "a refused read gives kbchar = 0xFFFFFFFF",
@@ -74,6 +79,8 @@ mistakes! {
     NumbersExchanged(usize),
     NumberForgotten(usize),
     NumberShort(usize),
+    NumberIsWord(usize),
+    HalvesExchanged(usize),
     HeaderExchanged(usize),
     EntryExchanged(usize),
     BlocksExchanged(usize),
@@ -118,15 +125,18 @@ impl Loose {
     }
 }
 
-/// The numbers of the register block that stand for something, from the first
-/// flag to the cause, each with what it must be below.
+/// The place of a number in the register block.
+pub fn place(name: &str) -> Option<usize> {
+    NAMES.iter().position(|other| *other == name)
+}
+
+/// The numbers of the register block that stand for something, each with what it
+/// must be below.
 pub fn bounded() -> impl Iterator<Item = (usize, u64)> {
-    let bounds = [2, 2, 2, 2, 2, 2, Stop::ALL.len() as u64, Cause::ALL.len() as u64];
-    let place = |name: &str| NAMES.iter().position(|other| *other == name);
-    bounds
-        .into_iter()
-        .enumerate()
-        .filter_map(move |(nth, bound)| Some((place("user")? + nth, bound)))
+    let flags = ["user", "iena", "paging", "waiting", "key_pending", "timer_pending", "mode"];
+    let others = [("stop", Stop::ALL.len()), ("cause", Cause::ALL.len())];
+    let all = flags.map(|flag| (flag, 2)).into_iter().chain(others);
+    all.filter_map(|(name, bound)| Some((place(name)?, bound as u64)))
 }
 
 impl SnapshotMistake {
@@ -168,9 +178,19 @@ impl SnapshotMistake {
         }
     }
 
-    /// A number of the register block that is lost, or loses its higher half.
+    /// A number of the register block that is lost, loses its higher half or is
+    /// changed otherwise.
     pub fn misread_number(self, list: &mut [u64]) {
+        let old = place("mode").is_some_and(|nth| list[nth] == 0);
+        for nth in ["f", "g"].into_iter().filter_map(place) {
+            match self {
+                SnapshotMistake::FloatsCanonical if is_nan(list[nth]) => list[nth] = NAN,
+                SnapshotMistake::FloatsByMode if old => list[nth] = 0,
+                _ => {}
+            }
+        }
         match self {
+            SnapshotMistake::HalvesExchanged(nth) => list[nth] = list[nth].rotate_left(32),
             SnapshotMistake::NumberForgotten(nth) => list[nth] = 0,
             SnapshotMistake::NumberShort(nth) => list[nth] &= (1 << (4 * widths()[nth])) - 1,
             _ => {}
@@ -207,6 +227,9 @@ impl SnapshotMistake {
             }
             SnapshotMistake::StoppedJudged => stopped,
             SnapshotMistake::FreshCountJudged => stopped && regs.count == 0,
+            SnapshotMistake::NanJudged => is_nan(regs.f) || is_nan(regs.g),
+            SnapshotMistake::FloatsJudged => !regs.mode && regs.f | regs.g != 0,
+            SnapshotMistake::ModeJudged => regs.mode,
             _ => false,
         }
     }

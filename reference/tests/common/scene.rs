@@ -3,7 +3,8 @@
 //! many are sent to the tables. Document 02's checks are a list here.
 
 use reference::machine::Machine;
-use reference::opcodes::decode::{decode, Base, Block, Op, Source, System};
+use reference::opcodes::decode::{decode_in, Base, Block, Op, Source, System};
+use reference::opcodes::floats::Float;
 use reference::opcodes::sets::is_privileged;
 use reference::types::{Access, Cause, Entry, Key, Registers, CAPACITY, PAGE};
 use reference::words::{get, immediate};
@@ -115,7 +116,8 @@ impl Scene<'_> {
             Ok(word) => word,
             Err(cause) => return Some((self.regs.pc, Access::Fetch, cause)),
         };
-        let op = decode(word as u8).filter(|_| !(self.regs.user && is_privileged(word as u8)))?;
+        let closed = self.regs.user && is_privileged(word as u8);
+        let op = decode_in(word as u8, self.regs.mode).filter(|_| !closed)?;
         if op == Op::System(System::Pdir) {
             let beyond = self.regs.a as usize >= self.memory.len();
             return beyond.then_some((self.regs.a, Access::Read, Cause::AddressBeyond));
@@ -148,6 +150,13 @@ impl Scene<'_> {
         match op {
             Op::Load(_, base, _) => vec![(from(base), Read)],
             Op::Store(base, _) => vec![(from(base), Write)],
+            Op::Float(float) => match float {
+                Float::Load(_, base, _) => vec![(from(base), Read)],
+                Float::Store(base, _) => vec![(from(base), Write)],
+                Float::Push(_) => vec![(sp.wrapping_sub(8), Write)],
+                Float::Pop(_) => vec![(sp, Read)],
+                _ => vec![],
+            },
             Op::Arith(_, Source::Stack) => vec![(sp.wrapping_add(imm), Read)],
             Op::Push(_) | Op::Pshi | Op::Jsr | Op::Jsra => vec![(sp.wrapping_sub(8), Write)],
             Op::Pop(_) | Op::Lev => vec![(sp, Read)],

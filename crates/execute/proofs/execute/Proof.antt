@@ -1,8 +1,8 @@
 -- The match tells the instruction, and with it the arm of `executeTree`; an arm that asks for no access is a leaf (`executes-fine`, `executes-trap`,
--- `executes-alu`, `executes-system`), one that does is its function's contract.
+-- `executes-alu`, `executes-system`, `executes-undecoded`), one that does is its function's contract.
 use borrow.Author.Needs.{needs}
 use Rattle.rules.specs.Execute.{executeTree}
-use Rattle.contracts.proofs.Laws.{executes-fine, executes-trap, executes-system}
+use Rattle.contracts.proofs.Laws.{executes-fine, executes-trap, executes-system, executes-undecoded}
 use Rattle.execute.proofs.Laws.{executes-alu}
 use Rattle.execute.proofs.execute.Statement.{statement}
 use Rattle.execute.proofs.execute.Tie as tie
@@ -11,7 +11,7 @@ returns : tie.Need-returns
 unfolding executeTree
 returns c =
     let pre = c .before .before .before .before .before .pre in
-    rw (c .before .enum-told .given .1) (executes-trap pre (c .ended .ensures))
+    rw (c .before .enum-told .given .1) (executes-undecoded pre (c .ended .ensures))
 
 returns-2 : tie.Need-returns-2
 unfolding executeTree

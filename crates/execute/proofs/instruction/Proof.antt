@@ -25,7 +25,7 @@ same-length-3 c =
     let execute = at-execute .execute in
     let at-load4 = at-execute .before .before .before .before .before .before .before .before in
     let translate = at-load4 .before .before .before .before .before .before .before .before .before .translate in
-    omega (arith, translate .kept .0, execute .kept .1 .1 .1 .1 .0)
+    omega (arith, translate .kept .0, execute .kept .1 .1 .1 .1 .1 .0)
 
 same-length-4 : tie.Need-same-length-4
 same-length-4 c =
@@ -33,7 +33,7 @@ same-length-4 c =
     let execute = at-execute .execute in
     let at-load4 = at-execute .before .before .before .before .before .before .before .before in
     let translate = at-load4 .before .before .before .before .before .before .before .before .before .translate in
-    omega (arith, translate .kept .1 .0, execute .kept .1 .1 .1 .1 .1 .0)
+    omega (arith, translate .kept .1 .0, execute .kept .1 .1 .1 .1 .1 .1 .0)
 
 returns-2 : tie.Need-returns-2
 returns-2 c =

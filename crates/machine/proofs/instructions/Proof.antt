@@ -5,7 +5,7 @@ use mathlib.Core.Path.{_≡_, refl}
 use borrow.Author.Needs.{needs}
 use lib.ListN.{length}
 use Rattle.mmu.specs.Good.{Good}
-use Rattle.machine.proofs.InstructionLaws.{not-ok, instructions-early, instructions-all, MadeFrom, good-beside, executes-beside, from-start, from-go}
+use Rattle.machine.proofs.InstructionLaws.{not-ok, instructions-early, instructions-all, MadeFrom, executes-beside, from-start, from-go}
 use Rattle.machine.proofs.instructions.Statement.{statement}
 use Rattle.machine.proofs.instructions.Tie as tie
 
@@ -21,22 +21,21 @@ abbrev μ-loop : tie.MeasureT-loop
 
 loop-holds : tie.Need-loop-holds Inv-loop μ-loop
 loop-holds c =
-    let pre = c .before .before .before .pre in
-    let good = good-beside (pre .1 .1) (pre .0 .0) in
-    (refl, (refl, (good, from-start _ _ _ _ _ _ good (pre .0 .1))))
+    let pre = c .before .before .pre in
+    (refl, (refl, (pre .0, from-start _ _ _ _ _ _ (pre .0) (pre .1))))
 
 instruction-requires : tie.Need-instruction-requires Inv-loop μ-loop
 instruction-requires c κs = (c .before .before .before .before .before .loop .inv .1 .1 .0, omega (arith, c .before .before .before .if1 .taken))
 
 returns : tie.Need-returns Inv-loop μ-loop
 returns c =
-    let given = c .before .before .before .before .before .before .before .before .before .before .before .before .before .before .before .before .args in
-    let pre = c .before .before .before .before .before .before .before .before .before .before .before .before .before .before .before .before .pre in
-    let made = c .before .before .before .before .before .before .before .before .before .before .before .before .loop .inv .1 .1 .1 (given .c) refl (pre .1 .0) (pre .1 .1) in
+    let loop = c .before .before .before .before .before .before .before .before .before .before .before .before .loop in
     let below = c .before .before .before .before .before .before .before .before .before .before .if1 .taken in
     let instruction = c .before .before .before .before .before .before .instruction in
-    let executed = executes-beside (pre .1 .0) (pre .1 .1) (instruction .ensures) in
-    rw (c .ended .ensures) (instructions-early _ _ _ _ made below (instruction .kept .1 .1 .1 .0) executed (not-ok _ (c .before .match .keys2)))
+    λ k e u v.
+    rw (c .ended .ensures)
+    (instructions-early _ _ _ _ (loop .inv .1 .1 .1 k e u v) below (instruction .kept .1 .1 .1 .0) (executes-beside u v (instruction .ensures))
+    (not-ok _ (c .before .match .keys2)))
 
 loop-again : tie.Need-loop-again Inv-loop μ-loop
 loop-again c =
@@ -49,10 +48,8 @@ loop-again c =
 
 returns-2 : tie.Need-returns-2 Inv-loop μ-loop
 returns-2 c =
-    let given = c .before .before .before .before .before .before .before .args in
-    let pre = c .before .before .before .before .before .before .before .pre in
-    let made = c .before .before .before .loop .inv .1 .1 .1 (given .c) refl (pre .1 .0) (pre .1 .1) in
-    rw (c .fine .ensures) (instructions-all _ _ _ _ made (c .before .if1 .left))
+    let loop = c .before .before .before .loop in
+    λ k e u v. rw (c .fine .ensures) (instructions-all _ _ _ _ (loop .inv .1 .1 .1 k e u v) (c .before .if1 .left))
 
 pub instructions-spec : {M : Type 1} → statement M
 instructions-spec =

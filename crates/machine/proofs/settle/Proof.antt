@@ -2,7 +2,7 @@
 use borrow.Author.Needs.{needs}
 use Rattle.contracts.proofs.Steps.{finishes-ended}
 use Rattle.rules.specs.Step.{spaceAfter, settleTree}
-use Rattle.machine.proofs.Settling.{settle-at, settle-trap, settle-refused}
+use Rattle.machine.proofs.Settling.{settle-at, settle-trap, settle-refused, settle-undecoded}
 use Rattle.machine.proofs.settle.Statement.{statement}
 use Rattle.machine.proofs.settle.Tie as tie
 
@@ -39,13 +39,20 @@ returns-5 c =
     let system = c .before .before .before .before .before .before .system in
     settle-at _ _ _ _ (privileged .given .1) (system .ensures)
 
+returns-6 : tie.Need-returns-6
+returns-6 c =
+    let undecoded = c .before .before .before .before .before .before .before .before .before .enum-told2 in
+    let next-pc3 = c .before .before .before .before .before .before .before .before .next-pc3 in
+    let trap2 = c .before .before .before .before .trap2 in
+    settle-undecoded _ _ _ _ (undecoded .given .1) (next-pc3 .ensures) (trap2 .ensures _)
+
 pub settle-spec : {M : Type 1} → statement M
 settle-spec =
     tie.close
     (tie.spec
     (λ c. search needs) (λ c κs. search needs) (λ c. search needs) (λ c κs. search needs) (λ c. search needs)
     (λ c κs. search needs) (λ c κs. search needs) (λ c. search needs) (λ c κs. search needs) (λ c κs. search needs)
-    (λ c. search needs) (λ c κs. search needs)
+    (λ c. search needs) (λ c κs. search needs) (λ c. search needs) (λ c κs. search needs) (λ c κs. search needs)
     returns
     (λ c. search needs) (λ c. search needs)
     returns-2
@@ -54,4 +61,6 @@ settle-spec =
     (λ c. search needs) (λ c. search needs)
     returns-4
     (λ c. search needs) (λ c. search needs) (λ c. search needs)
-    returns-5)
+    returns-5
+    (λ c. search needs) (λ c. search needs)
+    returns-6)

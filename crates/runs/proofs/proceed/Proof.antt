@@ -175,6 +175,12 @@ walks-requires c κs =
     let go = c .before .before .before .before .before .before .before .before .before .before .before .before .before .before .go in
     go .ensures .good .buffer
 
+same-length : tie.Need-same-length Inv-loop μ-loop Inv-loop2 μ-loop2
+same-length c = c .before .before .before .before .before .before .before .before .before .before .before .before .before .before .before .go .kept .1 .1 .1 .0
+
+same-length-2 : tie.Need-same-length-2 Inv-loop μ-loop Inv-loop2 μ-loop2
+same-length-2 c = c .before .before .before .before .before .before .before .before .before .before .before .before .before .before .before .go .kept .1 .1 .1 .1 .0
+
 returns : tie.Need-returns Inv-loop μ-loop Inv-loop2 μ-loop2
 returns c =
     let inv2 = c .before .before .before .loop2 .inv .1 in
@@ -229,5 +235,6 @@ proceed-spec =
     loop2-again
     (λ c. search needs)
     walks-requires
-    (λ c. search needs) (λ c. search needs)
+    same-length
+    same-length-2
     returns)

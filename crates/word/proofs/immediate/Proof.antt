@@ -1,15 +1,12 @@
--- Below 2^23 the field is its own extension (`extend-clear`), from there on the upper eight bits are added (`extend-set`).
-use native.Mathlib.Omega.{arith}
+-- The sum and the difference without a test are the extension (`extend-shifted`).
+use mathlib.Core.Path.{_∙_}
 use borrow.Author.Needs.{needs}
-use Rattle.word.proofs.Extension.{extend-clear, extend-set}
+use Rattle.word.proofs.Extension.{extend-shifted}
 use Rattle.word.proofs.immediate.Statement.{statement}
 use Rattle.word.proofs.immediate.Tie as tie
 
 returns : tie.Need-returns
-returns c = extend-clear 24 (omega arith)
-
-returns-2 : tie.Need-returns-2
-returns-2 c = extend-set 24 (omega arith)
+returns c = c .difference .ensures ∙ extend-shifted _ (c .before .pre)
 
 pub immediate-spec : {M : Type 1} → statement M
-immediate-spec = tie.close (tie.spec (λ c. search needs) returns returns-2)
+immediate-spec = tie.close (tie.spec (λ c. search needs) (λ c κs. search needs) returns)

@@ -112,6 +112,9 @@ fn distinct() -> Registers {
         count: 0x0d0e_0f10_1112_1314,
         keys: 0x1516_1718_191a_1b1c,
         written: 0,
+        mode: true,
+        f: 0x1d1e_1f20_2122_2324,
+        g: 0xfff4_2526_2728_292a,
     }
 }
 
@@ -125,6 +128,7 @@ fn numbers() -> Vec<NamedMachine> {
         timer_pending: true,
         stop: Stop::NoFrame,
         cause: Cause::FrameBeyond,
+        mode: false,
         ..distinct()
     };
     let ones = Registers { a: u32::MAX, c: u32::MAX, pc: !3, ksp: !7, ..distinct() };
@@ -226,6 +230,9 @@ fn odd() -> Vec<NamedMachine> {
         ("step count 2^63 - 1", Registers { count: (1 << 63) - 1, ..regs() }),
         ("step count 2^32 - 1", Registers { count: (1 << 32) - 1, ..regs() }),
         ("keys taken", Registers { keys: u64::MAX, ..regs() }),
+        ("doubles", Registers { mode: true, f: 0x3fb9_9999_9999_999a, g: 1 << 63, ..regs() }),
+        ("NaNs", Registers { mode: true, f: u64::MAX, g: 0x7ff0_0000_0000_0001, ..regs() }),
+        ("f and g in the old mode", Registers { f: 0x7ff8_0000_0000_0000, g: 1, ..regs() }),
     ];
     list.into_iter().map(|(name, regs)| named(name, Save::new(4096, regs))).collect()
 }

@@ -169,7 +169,7 @@ fn place(name: &str) -> u32 {
 /// 16: flags, marks and rights that are not 0 or 1, stop reasons and causes
 /// without a meaning.
 fn flags() -> Vec<Named> {
-    let flags = ["user", "iena", "paging", "waiting", "key_pending", "timer_pending"];
+    let flags = ["user", "iena", "paging", "waiting", "key_pending", "timer_pending", "mode"];
     let mut list = Vec::new();
     let mut set = |name: &str, at: u32, values: &[u32]| {
         let set = |value: &u32| named(format!("{name} {value}"), base().word(at, *value));
@@ -207,6 +207,10 @@ fn registers() -> Vec<Named> {
     let count = place("count");
     set("low half of the step count", count, &[0x8000_0000, u32::MAX]);
     set("high half of the step count", count + 4, &[0x7fff_ffff, 0x8000_0000, u32::MAX]);
+    for name in ["f", "g"] {
+        set(&format!("low half of {name}"), place(name), &[0x8000_0000, u32::MAX]);
+        set(&format!("high half of {name}"), place(name) + 4, &[0x7ff0_0000, 0xfff4_5678]);
+    }
     let most = base().word(count, u32::MAX).word(count + 4, 0x7fff_ffff);
     list.push(named("step count 2^63 - 1", most));
     list.push(named("pdir M, paging", base().word(place("pdir"), 4096).word(place("paging"), 1)));

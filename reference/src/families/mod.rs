@@ -1,13 +1,17 @@
 //! Families of planted mistakes: one for each opcode, refusal, trap, bit or
 //! field that a slip could be made in.
 
+mod doubles;
+
 use crate::coverage::Emptied;
 use crate::mistake::Mistake;
-use crate::opcodes::decode::{decode, Op};
+use crate::opcodes::decode::{decode_in, Op};
 use crate::opcodes::kinds::{can_fault_in_kernel, drops_bits, reads};
 use crate::opcodes::kinds::{sets_stack, sets_target, takes_imm, writes};
-use crate::opcodes::sets::{is_privileged, ILLEGAL, LEGAL, PRIVILEGED};
+use crate::opcodes::sets::{is_privileged, ILLEGAL, ILLEGAL_WITH_DOUBLES};
+use crate::opcodes::sets::{LEGAL, LEGAL_WITH_DOUBLES, PRIVILEGED};
 use crate::types::{Access, Cause, Stop, Trap};
+use doubles::doubles;
 
 /// Mistakes of one kind.
 pub struct Family<M> {
@@ -20,35 +24,49 @@ pub fn family<M>(text: &'static str, members: impl IntoIterator<Item = M>) -> Fa
     Family { text, members: members.into_iter().collect() }
 }
 
-/// A mistake for each legal opcode of which something holds.
+/// A mistake for each opcode that is legal with doubles and of which something
+/// holds.
 fn by_opcode(
     text: &'static str,
     holds: fn(Op) -> bool,
     mistake: fn(u8) -> Mistake,
 ) -> Family<Mistake> {
-    let codes = LEGAL.iter().filter(|code| decode(**code).is_some_and(holds));
-    family(text, codes.map(|code| mistake(*code)))
+    let holds = |code: &&u8| decode_in(**code, true).is_some_and(holds);
+    family(text, LEGAL_WITH_DOUBLES.iter().filter(holds).map(|code| mistake(*code)))
 }
 
 pub fn families() -> Vec<Family<Mistake>> {
-    let lists = [opcodes(), operands(), accesses(), causes(), walks(), numbers()];
+    let lists = [opcodes(), operands(), accesses(), causes(), walks(), doubles(), numbers()];
     lists.into_iter().flatten().collect()
 }
 
+/// Each of these bytes, in a mode, as each other that is legal with doubles.
+fn taken_as(codes: &[u8], mode: bool) -> Vec<Mistake> {
+    let others = |code: u8| LEGAL_WITH_DOUBLES.iter().map(move |other| (code, *other));
+    let pairs = codes.iter().flat_map(|code| others(*code));
+    // A floating opcode is illegal in the old mode, and taken as itself there.
+    let told = |(code, other): &(u8, u8)| code != other || (!mode && !LEGAL.contains(code));
+    pairs.filter(told).map(|(code, other)| Mistake::As(code, other, mode)).collect()
+}
+
 fn opcodes() -> Vec<Family<Mistake>> {
-    let others = |code: u8| LEGAL.iter().map(move |other| (code, *other));
-    let unequal = |(code, other): (u8, u8)| (code != other).then_some(Mistake::As(code, other));
-    let closed = LEGAL.iter().filter(|code| !is_privileged(**code));
+    let illegal = |codes: &[u8], mode: bool| -> Vec<Mistake> {
+        codes.iter().map(|code| Mistake::As(*code, 0xff, mode)).collect()
+    };
+    let closed = LEGAL_WITH_DOUBLES.iter().filter(|code| !is_privileged(**code));
     vec![
+        family("in the old mode legal opcode [0] is executed as [1]", taken_as(&LEGAL, false)),
         family(
-            "legal opcode [0] is executed as [1]",
-            LEGAL.iter().flat_map(|code| others(*code)).filter_map(unequal),
+            "with doubles legal opcode [0] is executed as [1]",
+            taken_as(&LEGAL_WITH_DOUBLES, true),
         ),
+        family("in the old mode illegal byte [0] is executed as [1]", taken_as(&ILLEGAL, false)),
         family(
-            "illegal byte [0] is executed as [1]",
-            ILLEGAL.iter().flat_map(|code| others(*code)).filter_map(unequal),
+            "with doubles illegal byte [0] is executed as [1]",
+            taken_as(&ILLEGAL_WITH_DOUBLES, true),
         ),
-        family("opcode [0] is illegal", LEGAL.iter().map(|code| Mistake::As(*code, 0xff))),
+        family("in the old mode opcode [0] is illegal", illegal(&LEGAL, false)),
+        family("with doubles opcode [0] is illegal", illegal(&LEGAL_WITH_DOUBLES, true)),
         family("opcode [0] is privileged", closed.map(|code| Mistake::Privileged(*code))),
         family("opcode [0] is open", PRIVILEGED.iter().map(|code| Mistake::Open(*code))),
     ]
@@ -201,11 +219,19 @@ fn numbers() -> Vec<Family<Mistake>> {
     ]
 }
 
-/// The opcode bytes that a mistake is about; it shows only where one is executed.
-pub fn opcode_of(mistake: Mistake) -> Option<u8> {
+/// The opcode byte that a mistake is about, and the mode if it is about one; it
+/// shows only where that is executed.
+pub fn opcode_of(mistake: Mistake) -> Option<(u8, Option<bool>)> {
+    if let Mistake::As(code, _, mode) = mistake {
+        return Some((code, Some(mode)));
+    }
+    opcode_alone(mistake).map(|code| (code, None))
+}
+
+fn opcode_alone(mistake: Mistake) -> Option<u8> {
     use Mistake::*;
     match mistake {
-        As(code, _) | Privileged(code) | Open(code) => Some(code),
+        Privileged(code) | Open(code) | MoveCanonical(code) | MoveQuiet(code) => Some(code),
         ImmediateIsUnsigned(code) | ImmediateIsShort(code) => Some(code),
         TargetKeepsLowBits(code) | StackKeepsLowBits(code) | VadrDropped(code) => Some(code),
         ReadsAsWrite(code) | WritesAsRead(code) | AsKernel(code) | FaultOwnPc(code) => Some(code),
@@ -227,15 +253,16 @@ pub fn cause_of(mistake: Mistake) -> Option<Cause> {
 #[cfg(test)]
 mod tests {
     use super::*;
-    use crate::opcodes::sets::is_legal;
+    use crate::opcodes::sets::is_legal_in;
 
     #[test]
     fn members_are_about_legal_opcodes_where_they_should_be() {
         for family in families() {
             assert!(!family.members.is_empty(), "{}", family.text);
             for mistake in family.members {
-                let Some(code) = opcode_of(mistake) else { continue };
-                assert!(is_legal(code) || matches!(mistake, Mistake::As(..)), "{mistake:?}");
+                let Some((code, _)) = opcode_of(mistake) else { continue };
+                let legal = is_legal_in(code, true);
+                assert!(legal || matches!(mistake, Mistake::As(..)), "{mistake:?}");
             }
         }
     }

@@ -1,0 +1,5 @@
+pub mod Arithmetic
+pub mod Comparison
+pub mod Single
+pub mod Whole
+pub mod NextWhole
