@@ -136,6 +136,29 @@ fn read_double(
     fine(r, put(v, d, y))
 }
 
+// The same for POPF and POPG. With two callers the function would stay out of line, and f and g in memory: a floating instruction took half as long again.
+fn pop_double(
+    r: Regs,
+    v: Floats,
+    d: FloatReg,
+    va: u32,
+    user: bool,
+    space: Space,
+    mem: &mut [u8],
+    tlb: &mut [u64],
+    hint: &mut [u8; 256],
+) -> FloatDone
+    requires { ⌜ Good (length (now mem)) (space .pdir) (now tlb) ⌝ }
+    ensures { λ x. ⌜ FloatExecutes (reading 8 va (λ y. computing r (putFloat d y v))) space user [] (now (mem .entry)) (now (tlb .entry)) x (now (mem .exit)) (now (tlb .exit)) ⌝ }
+{
+    let p = translate_double(mem, tlb, hint, space, va, Access::Read, user);
+    let Answer::At(q) = p else {
+        return ended(r, v, End::Refused(contracts::fault_of(p)));
+    };
+    let y = memory::load8(mem, q);
+    fine(r, put(v, d, y))
+}
+
 // A single, widened, goes to a register.
 fn read_single(
     r: Regs,
@@ -161,6 +184,29 @@ fn read_single(
 
 // x is stored in eight bytes, and the registers after it are r.
 fn write_double(
+    r: Regs,
+    v: Floats,
+    x: u64,
+    va: u32,
+    user: bool,
+    space: Space,
+    mem: &mut [u8],
+    tlb: &mut [u64],
+    hint: &mut [u8; 256],
+) -> FloatDone
+    requires { ⌜ Good (length (now mem)) (space .pdir) (now tlb) ⌝ }
+    ensures { λ y. ⌜ FloatExecutes (storing 8 va x r v) space user [] (now (mem .entry)) (now (tlb .entry)) y (now (mem .exit)) (now (tlb .exit)) ⌝ }
+{
+    let p = translate_double(mem, tlb, hint, space, va, Access::Write, user);
+    let Answer::At(q) = p else {
+        return ended(r, v, End::Refused(contracts::fault_of(p)));
+    };
+    memory::store8(mem, q, x);
+    fine(r, v)
+}
+
+// The same for PSHF and PSHG, for the same reason.
+fn push_double(
     r: Regs,
     v: Floats,
     x: u64,
@@ -272,11 +318,11 @@ fn execute(
         FloatInstr::Push(d) => {
             let top = word::difference(r.sp, 8);
             let n = contracts::regs(r, r.a, r.b, r.c, top / 8 * 8, r.pc);
-            write_double(n, v, get(v, d), top, user, space, mem, tlb, hint)
+            push_double(n, v, get(v, d), top, user, space, mem, tlb, hint)
         }
         FloatInstr::Pop(d) => {
             let n = contracts::regs(r, r.a, r.b, r.c, word::sum(r.sp, 8) / 8 * 8, r.pc);
-            read_double(n, v, d, r.sp, user, space, mem, tlb, hint)
+            pop_double(n, v, d, r.sp, user, space, mem, tlb, hint)
         }
         FloatInstr::Fabs => fine(r, put(v, FloatReg::F, double::absolute(v.f))),
         FloatInstr::Flor => fine(r, put(v, FloatReg::F, double::floor(v.f))),

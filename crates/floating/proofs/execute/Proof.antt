@@ -145,8 +145,8 @@ returns-17 c =
     let difference = c .before .before .before .before .before .before .before .before .before .before .difference in
     let regs = c .before .before .before .before .before .before .before .before .before .regs in
     let get = c .before .before .before .before .before .before .before .before .get in
-    let write-double2 = c .before .before .before .before .write-double2 in
-    rw (told .given .1, ← difference .ensures, ← get .ensures) (rw (← regs .ensures) (write-double2 .ensures))
+    let push-double = c .before .before .before .before .push-double in
+    rw (told .given .1, ← difference .ensures, ← get .ensures) (rw (← regs .ensures) (push-double .ensures))
 
 returns-18 : tie.Need-returns-18
 unfolding floatTree
@@ -154,8 +154,8 @@ returns-18 c =
     let told = c .before .before .before .before .before .before .before .before .before .before .before .i10 in
     let sum3 = c .before .before .before .before .before .before .before .before .before .sum3 in
     let regs2 = c .before .before .before .before .before .before .before .before .regs2 in
-    let read-double2 = c .before .before .before .before .read-double2 in
-    rw (told .given .1, ← sum3 .ensures) (rw (← regs2 .ensures) (read-double2 .ensures))
+    let pop-double = c .before .before .before .before .pop-double in
+    rw (told .given .1, ← sum3 .ensures) (rw (← regs2 .ensures) (pop-double .ensures))
 
 returns-19 : tie.Need-returns-19
 unfolding floatTree
