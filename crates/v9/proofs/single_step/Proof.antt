@@ -21,33 +21,8 @@ use contract.Monad.{Fun, fact}
 use contract.Running.{givenOf, tables, tablesOf}
 use types.Kit.{Given, Item, Sq, runs, atRet, ‵, raw, some, later, _⊛_, ⋆, _$_, _∵_, !, qed, by, move, keep, use0, use1, use2, drop, split, join, pick, rewrite}
 use types.Kit.{fsplit, fsplit3, fjoin, fjoin3, feqL, feqI, suffices, frame, await, done}
-use types.Run.{
-  look,
-  init,
-  store,
-  forget,
-  stop,
-  hop,
-  fld,
-  from,
-  load,
-  lit,
-  addr,
-  and-then,
-  no-more,
-  of-opd,
-  assigns,
-  land,
-  returns,
-  enter,
-  alloc1,
-  alloc0,
-  params1,
-  pass1,
-  pass0,
-  free1,
-  free0,
-}
+use types.Run.{look, init, store, forget, stop, hop, fld, from, load, lit, addr, and-then, no-more, of-opd, assigns, land, returns, enter}
+use types.Run.{alloc1, alloc0, params1, pass1, pass0, free1, free0}
 use types.Part.{agg, whole, sub, look-in}
 use types.SemTy.{Body}
 use sound.WpLaws.{FmC, fmOf, WpFn-mono}
