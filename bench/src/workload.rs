@@ -4,8 +4,8 @@ use crate::case::{Case, Run, RUN_PACKED, SINGLE_STEP};
 use crate::opcode::{op, RTI};
 use crate::plain::Machine;
 use crate::program::{
-    arithmetic, copy_16_kib, divisions, flow_meter, flow_meter_data, mixed, pages, repeated,
-    touched, transfers, FAR_PAGE,
+    arithmetic, copy_16_kib, divisions, flow_meter, flow_meter_apart, flow_meter_data, mixed,
+    pages, repeated, touched, transfers, FAR_PAGE,
 };
 
 pub struct Workload {
@@ -67,6 +67,11 @@ pub fn all() -> Vec<Workload> {
         paged("70 pages in rotation", repeated(pages(70))),
         Workload { doubles: true, ..unpaged("doubles", repeated(flow_meter())) },
         Workload { doubles: true, ..paged("doubles, paged", repeated(flow_meter())) },
+        Workload { doubles: true, ..unpaged("doubles, each alone", repeated(flow_meter_apart())) },
+        Workload {
+            doubles: true,
+            ..paged("doubles, each alone, paged", repeated(flow_meter_apart()))
+        },
         Workload { by_step: true, ..unpaged("calls of budget 1", repeated(mixed())) },
         Workload { by_step: true, ..paged("calls of budget 1, 20 pages", twenty_pages()) },
     ]

@@ -93,6 +93,21 @@ fn one_step_in_three_is_of_doubles() {
 }
 
 #[test]
+fn doubles_stand_alone() {
+    let floating = [LBLD, SLD, SLF, ADDF, MULF, CUD];
+    for name in ["doubles, each alone", "doubles, each alone, paged"] {
+        let work = named(name);
+        let is_floating: Vec<bool> =
+            work.program.iter().map(|word| floating.contains(&(word & 0xff))).collect();
+        assert!(is_floating.windows(2).all(|pair| pair != [true, true]), "{name}");
+        let seen = seen(&work, 22 * 1000);
+        let made: usize = floating.iter().map(|code| seen.opcodes[code]).sum();
+        assert_eq!((made, seen.traps), (7 * 1000, 0), "{name}");
+        assert!(f64::from_bits(seen.machine.f).is_normal(), "{name}");
+    }
+}
+
+#[test]
 fn the_timer_traps_every_fifty_steps() {
     assert_eq!(seen(&named("timer trap every 50 steps"), 50_000).traps, 1000);
 }
