@@ -6,6 +6,7 @@ pub mod causes;
 pub mod clock;
 pub mod division;
 pub mod double_moves;
+pub mod double_runs;
 pub mod double_traps;
 pub mod double_values;
 pub mod doubles;
@@ -42,6 +43,7 @@ pub fn all() -> Vec<Named> {
         .chain(doubles::cases())
         .chain(double_values::cases())
         .chain(double_moves::cases())
+        .chain(double_runs::cases())
         .chain(double_traps::cases())
         .chain(every::cases())
         .chain(refusals::cases())
