@@ -60,7 +60,7 @@ module _ {s : Space} {user : Bool} {gs : List Grant} {m l : List ℕ} (g : Good 
   executes-system h = record { same = rw h; good = g }
 
   -- a word that document 01's table has no row for
-  pub executes-undecoded : {r : Regs} {w : ℕ} → d ≡ bad r (end.Undecoded w) → Executes (done (undecoded w)) s user gs m l d m l
+  pub executes-undecoded : {r : Regs} {pad w : ℕ} → d ≡ bad r (end.Undecoded pad w) → Executes (done (undecoded w)) s user gs m l d m l
   unfolding interpret madeBy
   executes-undecoded h = record { same = rw h; good = g }
 

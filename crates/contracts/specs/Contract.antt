@@ -54,7 +54,7 @@ outBy r (end.Unfetched f) = unfetched f
 outBy r (end.Trap code) = trap code
 outBy r (end.Refused f) = refused f
 outBy r (end.System op) = system op
-outBy r (end.Undecoded w) = undecoded w
+outBy r (end.Undecoded pad w) = undecoded w
 
 abbrev pub outOf : Done → Out
 outOf d = outBy (d .regs) (d .end)
@@ -66,7 +66,7 @@ floatOutBy r v (end.Unfetched f) = unfetched f
 floatOutBy r v (end.Trap code) = trap code
 floatOutBy r v (end.Refused f) = refused f
 floatOutBy r v (end.System op) = system op
-floatOutBy r v (end.Undecoded w) = undecoded w
+floatOutBy r v (end.Undecoded pad w) = undecoded w
 
 abbrev pub floatOutOf : FloatDone → Out
 floatOutOf d = floatOutBy (d .regs) (d .floats) (d .end)

@@ -19,8 +19,9 @@ pub enum End {
     Refused(Fault),
     // A privileged instruction, handled over the whole record.
     System(SysOp),
-    // A word that document 01's table has no row for.
-    Undecoded(u32),
+    // A word that document 01's table has no row for. Behind a number that says nothing it lies where a fault's address does, and not across its code and cause: there it
+    // is written in two parts and read in one, for which the processor waits.
+    Undecoded { pad: u32, word: u32 },
 }
 
 // What an instruction leaves: how it ended, and where it ended well the registers.

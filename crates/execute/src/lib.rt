@@ -10,6 +10,7 @@ ghost use Rattle.rules.specs.Arithmetic.{aluFrom};
 ghost use Rattle.rules.specs.Execute.{executeTree, instructionTree};
 ghost use Rattle.contracts.specs.Contract.{Executes};
 ghost use Rattle.execute.specs.Computed.{aluDone};
+ghost use Rattle.execute.specs.Ahead.{LooksAhead};
 use contracts::Done;
 use contracts::End;
 use decode::AluOp;
@@ -17,11 +18,18 @@ use decode::Instr;
 use decode::Operand;
 use decode::Reg;
 use memory::Size;
+use mmu::Probed;
 use operations::Computed;
 use paging::Access;
 use paging::Answer;
 use paging::Space;
 use rules::Regs;
+
+// What is known of the word at pc without a search or a walk: that it is a floating instruction, or nothing.
+pub enum Ahead {
+    Floating(u32),
+    Unknown,
+}
 
 // ---- arithmetic
 
@@ -75,7 +83,7 @@ fn execute(
     ensures { λ d. ⌜ Executes (executeTree w i r) space user [] (now (mem .entry)) (now (tlb .entry)) d (now (mem .exit)) (now (tlb .exit)) ⌝ }
 {
     match i {
-        Instr::Illegal => contracts::ended(r, End::Undecoded(w)),
+        Instr::Illegal => contracts::ended(r, End::Undecoded { pad: 0, word: w }),
         Instr::Nop => contracts::fine(r),
         Instr::Trap => contracts::ended(r, End::Trap(paging::FSYS)),
         Instr::Cyc => contracts::fine(operations::put(r, Reg::A, (r.count % 0x1_0000_0000) as u32)),
@@ -174,4 +182,27 @@ pub fn instruction(
     let mut n = contracts::regs(r, r.a, r.b, r.c, r.sp, word::sum(r.pc, 4));
     n.count = r.count + 1;
     execute(n, i, w, user, space, mem, tlb, hint)
+}
+
+// Whether the next instruction is a floating one, where that is known without a search or a walk: `instruction` would then end in its word and change nothing.
+pub fn look_ahead(
+    r: Regs,
+    user: bool,
+    space: Space,
+    mem: &[u8],
+    tlb: &[u64],
+    hint: &[u8; 256],
+) -> Ahead
+    requires { ⌜ Good (length (now mem)) (space .pdir) (now tlb) ⌝ }
+    ensures { λ a. ⌜ LooksAhead r space user (now (mem .entry)) (now (tlb .entry)) a ⌝ }
+{
+    let p = mmu::probe(mem, tlb, hint, space, r.pc, Size::Word, Access::Fetch, user);
+    let Probed::At(q) = p else {
+        return Ahead::Unknown;
+    };
+    let w = memory::load4(mem, q);
+    if floating_decode::is_floating(w) {
+        return Ahead::Floating(w);
+    }
+    Ahead::Unknown
 }

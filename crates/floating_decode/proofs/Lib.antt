@@ -1,2 +1,4 @@
 pub mod Match
 pub mod Table
+pub mod Sets
+pub mod Undecoded

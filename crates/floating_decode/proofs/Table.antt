@@ -9,31 +9,9 @@ use Rattle.word.specs.Word.{if_then_else_}
 use Rattle.decode.specs.Opcodes.{table, opcodeOf, isIllegal}
 use Rattle.decode.specs.Illegal.{floatingPoint, within}
 use Rattle.decode.proofs.Table.{every, every-below}
-use Rattle.floating_decode.specs.declared.FloatInstr.{FloatInstr}
-use Rattle.floating_decode.specs.declared.FloatInstr.the-variants.{Unlisted, Load, Store, LoadImm, Lbad, Arith, Compare, Bzf, Bnzf, Branch, Cid, Cud, Cdi, Cdu, Push, Pop, Fabs, Flor, Ceil}
+use Rattle.floating_decode.specs.declared.FloatInstr.the-variants.{Unlisted}
 use Rattle.floating_decode.specs.Opcodes.{FloatRow, find, floatingTable, floatingOpcodeOf}
-
--- whether this is an instruction
-abbrev pub isListed : FloatInstr → Bool
-isListed Unlisted = false
-isListed (Load _ _ _ _) = true
-isListed (Store _ _ _) = true
-isListed (LoadImm _ _) = true
-isListed Lbad = true
-isListed (Arith _) = true
-isListed (Compare _) = true
-isListed (Bzf _) = true
-isListed (Bnzf _) = true
-isListed (Branch _ _) = true
-isListed Cid = true
-isListed Cud = true
-isListed Cdi = true
-isListed Cdu = true
-isListed (Push _) = true
-isListed (Pop _) = true
-isListed Fabs = true
-isListed Flor = true
-isListed Ceil = true
+use Rattle.floating_decode.specs.Listed.{isListed}
 
 -- the codes rise from row to row, beginning at n or above: no code has two rows
 abbrev pub rising : ℕ → List FloatRow → Bool

@@ -1,6 +1,8 @@
 // Document 02, item 7: the floating instructions and their decoding. The opcodes are those of source 000.
 ghost use mathlib.Core.Path.{_≡_};
+ghost use Prim.Native.Nat.{_<_};
 ghost use Rattle.floating_decode.specs.Opcodes.{floatingOpcodeOf, floatingDecodeOf};
+ghost use Rattle.floating_decode.specs.Listed.{isListed, QuarterSet};
 use decode::Base;
 use word::immediate;
 
@@ -117,4 +119,26 @@ pub fn floating_decode(word: u32) -> FloatInstr
 {
     let op = (word % 256) as u8;
     floating_opcode(op, immediate(word / 256))
+}
+
+// The opcode bytes with a row in the table, 64 of the 256 in a number: four digits have sixteen bytes, the lowest last.
+fn floating_set(quarter: u8) -> u64
+    requires { ⌜ quarter < 4 ⌝ }
+    ensures { λ r. ⌜ QuarterSet quarter r ⌝ }
+{
+    match quarter {
+        0 => 0xa60c_1826_0c18_0000,
+        1 => 0x2800_0000_0007_e318,
+        2 => 0x4006_0004_803e_4aa9,
+        _ => 0x0000_0000_0000_0030,
+    }
+}
+
+// Whether a word is a floating instruction. `floating_decode` tells it too, but has one caller: with a second one it is no longer inlined.
+pub fn is_floating(word: u32) -> bool
+    ensures { λ r. ⌜ r ≡ isListed (floatingDecodeOf word) ⌝ }
+{
+    let op = (word % 256) as u8;
+    let set = floating_set(op / 64);
+    (set >> (op % 64)) % 2 == 1
 }

@@ -29,8 +29,8 @@ use Rattle.machine.specs.Settled.{furthered, completed, settled}
 -- ---- ends
 
 -- an end that is no word without a row
-pub not-undecoded : (e : End) → OneOf (0 ∷ 1 ∷ 2 ∷ 3 ∷ 4 ∷ []) (Declared.tagOf End·type e) → (w : ℕ) → e ≡ Undecoded w → ⊥
-not-undecoded e h w q = none (subst (λ (x : End). OneOf (0 ∷ 1 ∷ 2 ∷ 3 ∷ 4 ∷ []) (Declared.tagOf End·type x)) q h)
+pub not-undecoded : (e : End) → OneOf (0 ∷ 1 ∷ 2 ∷ 3 ∷ 4 ∷ []) (Declared.tagOf End·type e) → (pad w : ℕ) → e ≡ Undecoded pad w → ⊥
+not-undecoded e h pad w q = none (subst (λ (x : End). OneOf (0 ∷ 1 ∷ 2 ∷ 3 ∷ 4 ∷ []) (Declared.tagOf End·type x)) q h)
   where
     none : OneOf (0 ∷ 1 ∷ 2 ∷ 3 ∷ 4 ∷ []) 5 → ⊥
     none (inl p) = omega (arith, p)
@@ -41,7 +41,7 @@ not-undecoded e h w q = none (subst (λ (x : End). OneOf (0 ∷ 1 ∷ 2 ∷ 3 �
 
 -- an end in the machine's mode that is the one by document 01's table: it has a row, or the mode is the old one
 abbrev pub Settles : Bool → End → Type 0
-Settles doubles e = doubles ≡ true → (w : ℕ) → e ≡ Undecoded w → ⊥
+Settles doubles e = doubles ≡ true → (pad w : ℕ) → e ≡ Undecoded pad w → ⊥
 
 module _ (x : Cpu) (m : List ℕ) (es : Kept) where
   further-undecoded : (w : ℕ) (doubles : Bool) → (doubles ≡ true → ⊥)
@@ -58,7 +58,7 @@ module _ (x : Cpu) (m : List ℕ) (es : Kept) where
   further-same r (Trap code) n = refl
   further-same r (Refused f) n = refl
   further-same r (System op) n = refl
-  further-same r (Undecoded w) n = further-undecoded w (x .model .doubles) (λ e. n e w refl)
+  further-same r (Undecoded pad w) n = further-undecoded w (x .model .doubles) (λ e. n e pad w refl)
 
 -- registers, f and g of an instruction that did not end well are not used
 pub by-float-end : (r r′ : Regs) (v : Floats) (e : End) → (e ≡ Ok → ⊥) → outBy r e ≡ floatOutBy r′ v e
@@ -67,7 +67,7 @@ by-float-end r r′ v (Unfetched f) n = refl
 by-float-end r r′ v (Trap code) n = refl
 by-float-end r r′ v (Refused f) n = refl
 by-float-end r r′ v (System op) n = refl
-by-float-end r r′ v (Undecoded w) n = refl
+by-float-end r r′ v (Undecoded pad w) n = refl
 
 -- ---- the rest of a step
 

@@ -39,7 +39,7 @@ isOk (Unfetched f) = false
 isOk (Trap code) = false
 isOk (Refused f) = false
 isOk (System op) = false
-isOk (Undecoded w) = false
+isOk (Undecoded pad w) = false
 
 pub is-ok : (e : End) → isOk e ≡ true → e ≡ Ok
 is-ok Ok q = refl
@@ -47,7 +47,7 @@ is-ok (Unfetched f) q = absurd (true≢false (sym q))
 is-ok (Trap code) q = absurd (true≢false (sym q))
 is-ok (Refused f) q = absurd (true≢false (sym q))
 is-ok (System op) q = absurd (true≢false (sym q))
-is-ok (Undecoded w) q = absurd (true≢false (sym q))
+is-ok (Undecoded pad w) q = absurd (true≢false (sym q))
 
 pub not-ok-end : (e : End) → isOk e ≡ false → e ≡ Ok → ⊥
 not-ok-end e q z = true≢false (sym (ap isOk z) ∙ q)
@@ -111,11 +111,11 @@ module _ (c : Cpu) (limit : ℕ) (m l : List ℕ) where
 -- ---- a floating instruction
 
 -- it is under way below the limit
-pub undecoded-below : {c : Cpu} {limit : ℕ} {m l : List ℕ} {b : Done} {v : Floats} {m₁ l₁ : List ℕ} → Paused c limit m l b v m₁ l₁ → {w : ℕ} → b .end ≡ Undecoded w
+pub undecoded-below : {c : Cpu} {limit : ℕ} {m l : List ℕ} {b : Done} {v : Floats} {m₁ l₁ : List ℕ} → Paused c limit m l b v m₁ l₁ → {pad w : ℕ} → b .end ≡ Undecoded pad w
     → b .regs .count < limit
 undecoded-below p q = p .early (λ z. true≢false (ap isOk (sym z ∙ q))) .0
 
-module _ (c : Cpu) (limit : ℕ) (m l : List ℕ) {b : Done} {v : Floats} {m₁ l₁ : List ℕ} (p : Paused c limit m l b v m₁ l₁) {w : ℕ} (q : b .end ≡ Undecoded w)
+module _ (c : Cpu) (limit : ℕ) (m l : List ℕ) {b : Done} {v : Floats} {m₁ l₁ : List ℕ} (p : Paused c limit m l b v m₁ l₁) {pad w : ℕ} (q : b .end ≡ Undecoded pad w)
     (doubles : c .model .doubles ≡ true) {d : FloatDone} {m₂ l₂ : List ℕ}
     (h : FloatExecutes (floatTree (floatingDecodeOf w) (moved (raiseCount (b .regs))) v) (c .space) (c .system .user) [] m₁ l₁ d m₂ l₂) where
   not-end : b .end ≡ Ok → ⊥

@@ -9,3 +9,4 @@ pub mod BurstLaws
 pub mod BurstSteps
 pub mod StepLaws
 pub mod AdvanceLaws
+pub mod ResumedLaws

@@ -82,4 +82,4 @@ by-end r r′ (Unfetched f) n = refl
 by-end r r′ (Trap code) n = refl
 by-end r r′ (Refused f) n = refl
 by-end r r′ (System op) n = refl
-by-end r r′ (Undecoded w) n = refl
+by-end r r′ (Undecoded pad w) n = refl

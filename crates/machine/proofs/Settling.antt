@@ -25,7 +25,7 @@ module _ (size consoleSize : ℕ) (c : Cpu) (d : Done) {m con l : List ℕ} {x :
   unfolding settleTree
   settle-trap {code} q p h = settle-at q (at-next (trapTree c code) c p h)
 
-  pub settle-undecoded : {w n : ℕ} → d .end ≡ Undecoded w → n ≡ nextPc c → Finishes (trapTree c FINST n) c m con l x m′ con′ l′
+  pub settle-undecoded : {pad w n : ℕ} → d .end ≡ Undecoded pad w → n ≡ nextPc c → Finishes (trapTree c FINST n) c m con l x m′ con′ l′
       → Finishes (settleTree size consoleSize c (outOf d)) c m con l x m′ con′ l′
   unfolding settleTree
   settle-undecoded q p h = settle-at q (at-next (trapTree c FINST) c p h)

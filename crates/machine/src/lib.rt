@@ -16,6 +16,7 @@ ghost use Rattle.machine.specs.Advance.{Ready, EndsWithin, Finished, Adv
 use contracts::Done;
 use contracts::End;
 use contracts::FloatDone;
+use execute::Ahead;
 use paging::Space;
 use rules::Cpu;
 use rules::Due;
@@ -58,6 +59,30 @@ fn instructions(
     contracts::fine(r)
 }
 
+// The same after a floating instruction. Where another one follows, as is usual, the loop would end at once: it is not entered, which takes longer than the
+// instruction itself.
+fn resumed(
+    s: Regs,
+    limit: u64,
+    space: Space,
+    user: bool,
+    mem: &mut [u8],
+    tlb: &mut [u64],
+    hint: &mut [u8; 256],
+) -> Done
+    requires { ⌜ Good (length (now mem)) (space .pdir) (now tlb) × (s .count ≤ limit) ⌝ }
+    ensures { λ b. ⌜ EndsFrom s user space limit (now (mem .entry)) (now (tlb .entry)) b (now (mem .exit)) (now (tlb .exit)) ⌝ }
+{
+    let a = execute::look_ahead(s, user, space, mem, tlb, hint);
+    let Ahead::Floating(w) = a else {
+        return instructions(s, limit, space, user, mem, tlb, hint);
+    };
+    if s.count < limit {
+        return contracts::ended(s, End::Undecoded { pad: 0, word: w });
+    }
+    contracts::fine(s)
+}
+
 // The step is counted, and pc moves 4 on.
 fn fetched(r: Regs) -> Regs
     requires { ⌜ r .count + 1 < 2 ^ 64 ⌝ }
@@ -92,13 +117,13 @@ fn floating_burst(
     ensures { λ b. ⌜ BurstEnd c limit (now (mem .entry)) (now (tlb .entry)) b (now (mem .exit)) (now (tlb .exit)) ⌝ }
 {
     let mut floats = c.floats;
-    let mut b = instructions(c.regs, limit, c.space, c.system.user, mem, tlb, hint);
+    let first = instructions(c.regs, limit, c.space, c.system.user, mem, tlb, hint);
+    let mut r = first.regs;
+    let mut e = first.end;
     loop {
-        let e = b.end;
-        let End::Undecoded(w) = e else {
-            return burst_done(b.regs, floats, e);
+        let End::Undecoded { pad: _, word: w } = e else {
+            return burst_done(r, floats, e);
         };
-        let r = b.regs;
         let d = floating::instruction(
             fetched(r),
             floats,
@@ -116,7 +141,9 @@ fn floating_burst(
         let mut n = d.regs;
         n.count = r.count + 1;
         floats = d.floats;
-        b = instructions(n, limit, c.space, c.system.user, mem, tlb, hint);
+        let b = resumed(n, limit, c.space, c.system.user, mem, tlb, hint);
+        r = b.regs;
+        e = b.end;
     }
 }
 
@@ -151,7 +178,14 @@ fn settle(
         End::Trap(code) => trap::trap(c, code, trap::next_pc(c), mem, tlb, hint),
         End::Refused(f) => trap::fault(c, f, trap::next_pc(c), mem, tlb, hint),
         End::System(op) => system::system(c, op, mem, console, tlb, hint),
-        End::Undecoded(_) => trap::trap(c, paging::FINST, trap::next_pc(c), mem, tlb, hint),
+        End::Undecoded { pad: _, word: _ } => trap::trap(
+            c,
+            paging::FINST,
+            trap::next_pc(c),
+            mem,
+            tlb,
+            hint,
+        ),
     }
 }
 

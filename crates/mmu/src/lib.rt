@@ -8,6 +8,7 @@ ghost use Rattle.paging.specs.declared.Answer.the-variants.{Denied};
 ghost use Rattle.buffer.specs.Held.{entriesIn, indexOf};
 ghost use Rattle.mmu.specs.Good.{Good};
 ghost use Rattle.mmu.specs.Translates.{request, spaceOf, Refills, Translates};
+ghost use Rattle.mmu.specs.Probes.{Probes};
 use buffer::Hit;
 use memory::Size;
 use paging::Access;
@@ -16,6 +17,12 @@ use paging::Cause;
 use paging::Fault;
 use paging::Space;
 use walk::PageWalk;
+
+// What a probe found without a search or a walk: where an access lies, or nothing.
+pub enum Probed {
+    At(usize),
+    Unknown,
+}
 
 // An address with its low bits dropped to the natural size.
 fn align(addr: u32, size: Size) -> u32
@@ -177,4 +184,34 @@ fn wide(x: u8) -> usize
     ensures { λ r. ⌜ r ≡ x ⌝ }
 {
     x as usize
+}
+
+// Where an access lies, if paging is off or the slot that the hint names serves it: nothing is changed. Translation begins so too; it is not made of this function,
+// since its slow part would then have one caller and be inlined with it.
+pub fn probe(
+    mem: &[u8],
+    tlb: &[u64],
+    hint: &[u8; 256],
+    space: Space,
+    addr: u32,
+    size: Size,
+    kind: Access,
+    user: bool,
+) -> Probed
+    requires { ⌜ Good (length (now mem)) (space .pdir) (now tlb) ⌝ }
+    ensures { λ r. ⌜ Probes space (request kind size addr user) (now (mem .entry)) (now (tlb .entry)) r ⌝ }
+{
+    if space.paging {
+        let page = addr / 4096;
+        let named = wide(hint[(page % 256) as usize]);
+        let hit = buffer::slot(tlb, named, page as u64, kind, user);
+        let Hit::Frame(frame) = hit else {
+            return Probed::Unknown;
+        };
+        return Probed::At(in_frame(frame, addr, size));
+    }
+    if (addr as usize) < mem.len() {
+        return Probed::At(align(addr, size) as usize);
+    }
+    Probed::Unknown
 }

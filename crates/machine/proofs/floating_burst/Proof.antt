@@ -11,148 +11,153 @@ use Rattle.machine.proofs.BurstLaws.{not-undecoded}
 use Rattle.machine.proofs.InstructionLaws.{not-ok}
 use Rattle.machine.specs.Burst.{reached, Paused}
 use Rattle.mmu.specs.Good.{Good}
+use Rattle.contracts.specs.Contract.{bad}
 use Rattle.machine.proofs.floating_burst.Statement.{statement}
 use Rattle.machine.proofs.floating_burst.Tie as tie
 
 -- memory and page buffer keep their lengths and are good, and what is paused since a start was so at the loop's entry
 abbrev Inv-loop : tie.InvT-loop
-Inv-loop c limit mem₀ tlb₀ hint₀ floats₀ b₀ mem tlb hint floats b =
+Inv-loop c limit mem₀ tlb₀ hint₀ floats₀ r₀ e₀ mem tlb hint floats r e =
     (length mem ≡ length mem₀)
     × ((length tlb ≡ length tlb₀)
-    × (Good (length mem) (c .space .pdir) tlb × ((m l : List ℕ) → Paused c limit m l b₀ floats₀ mem₀ tlb₀ → Paused c limit m l b floats mem tlb)))
+    × (Good (length mem) (c .space .pdir) tlb × ((m l : List ℕ) → Paused c limit m l (bad r₀ e₀) floats₀ mem₀ tlb₀ → Paused c limit m l (bad r e) floats mem tlb)))
 
 abbrev μ-loop : tie.MeasureT-loop
-μ-loop c limit mem₀ tlb₀ hint₀ floats₀ b₀ mem tlb hint floats b = limit - b .regs .count
+μ-loop c limit mem₀ tlb₀ hint₀ floats₀ r₀ e₀ mem tlb hint floats r e = limit - r .count
 
 instructions-requires : tie.Need-instructions-requires Inv-loop μ-loop
-instructions-requires c κs = c .before .before .before .before .before .before .pre .0
+instructions-requires c κs =
+    let pre = c .before .before .before .before .before .before .pre in
+    pre .0
 
 loop-holds : tie.Need-loop-holds Inv-loop μ-loop
 loop-holds c =
-    let instructions = c .before .before .before .before .instructions in
-    let given = c .before .before .before .before .before .before .before .before .before .before .before .args in
+    let instructions = c .before .before .before .before .before .instructions in
+    let given = c .before .before .before .before .before .before .before .before .before .before .before .before .args in
     (refl, (refl, (instructions .ensures (given .c) refl refl refl .good, λ m l p. p)))
 
 same-length : tie.Need-same-length Inv-loop μ-loop
 same-length c =
     let loop = c .before .before .loop in
-    let instructions = c .before .before .before .before .before .before .before .instructions in
+    let instructions = c .before .before .before .before .before .before .before .before .instructions in
     omega (arith, loop .inv .0, instructions .kept .1 .1 .1 .1 .0)
 
 same-length-2 : tie.Need-same-length-2 Inv-loop μ-loop
 same-length-2 c =
     let loop = c .before .before .loop in
-    let instructions = c .before .before .before .before .before .before .before .instructions in
+    let instructions = c .before .before .before .before .before .before .before .before .instructions in
     omega (arith, loop .inv .1 .0, instructions .kept .1 .1 .1 .1 .1 .0)
 
 returns : tie.Need-returns Inv-loop μ-loop
 returns c =
+    let burst-done = c .burst-done in
     let met = c .before .match in
     let loop = c .before .before .loop in
-    let instructions = c .before .before .before .before .before .before .before .instructions in
-    let at-given = c .before .before .before .before .before .before .before .before .before .before .before .before .before .before in
-    let given = at-given .args in
+    let instructions = c .before .before .before .before .before .before .before .before .instructions in
+    let given = c .before .before .before .before .before .before .before .before .before .before .before .before .before .before .before .args in
     let p = loop .inv .1 .1 .1 _ _ (paused-start _ _ _ _ (instructions .kept .1 .1 .1 .1 .0) (instructions .ensures (given .c) refl refl refl)) in
-    rw (c .burst-done .ensures) (paused-end _ _ _ _ p (λ _. not-undecoded _ (met .keys2)))
+    rw (burst-done .ensures) (paused-end _ _ _ _ p (λ _. not-undecoded _ (met .keys2)))
 
 fetched-requires : tie.Need-fetched-requires Inv-loop μ-loop
 fetched-requires c κs =
-    let undecoded = c .before .before .e in
-    let loop = c .before .before .before .before .loop in
+    let undecoded = c .before .e in
+    let loop = c .before .before .before .loop in
     let instructions = c .before .before .before .before .before .before .before .before .before .instructions in
-    let at-given = c .before .before .before .before .before .before .before .before .before .before .before .before .before .before .before .before in
-    let given = at-given .args in
-    let fits = at-given .fits in
+    let given = c .before .before .before .before .before .before .before .before .before .before .before .before .before .before .before .before .args in
+    let fits = c .before .before .before .before .before .before .before .before .before .before .before .before .before .before .before .before .fits in
     let p = loop .inv .1 .1 .1 _ _ (paused-start _ _ _ _ (instructions .kept .1 .1 .1 .1 .0) (instructions .ensures (given .c) refl refl refl)) in
     omega (arith, undecoded-below p (undecoded .given .1), fits)
 
 instruction-requires : tie.Need-instruction-requires Inv-loop μ-loop
-instruction-requires c κs = c .before .before .before .before .before .before .before .before .loop .inv .1 .1 .0
+instruction-requires c κs =
+    let loop = c .before .before .before .before .before .before .before .loop in
+    loop .inv .1 .1 .0
 
 same-length-3 : tie.Need-same-length-3 Inv-loop μ-loop
 same-length-3 c =
-    let instruction = c .before .before .before .before .before .before .instruction in
-    let at-loop = c .before .before .before .before .before .before .before .before .before .before .before .before .before .before .before in
-    let loop = at-loop .loop in
-    let instructions = at-loop .before .before .before .before .before .instructions in
+    let at-instruction = c .before .before .before .before .before .before in
+    let instruction = at-instruction .instruction in
+    let loop = at-instruction .before .before .before .before .before .before .before .before .loop in
+    let instructions = at-instruction .before .before .before .before .before .before .before .before .before .before .before .before .before .before .instructions in
     omega (arith, loop .inv .0, instructions .kept .1 .1 .1 .1 .0, instruction .kept .1 .1 .1 .1 .1 .0)
 
 same-length-4 : tie.Need-same-length-4 Inv-loop μ-loop
 same-length-4 c =
-    let instruction = c .before .before .before .before .before .before .instruction in
-    let at-loop = c .before .before .before .before .before .before .before .before .before .before .before .before .before .before .before in
-    let loop = at-loop .loop in
-    let instructions = at-loop .before .before .before .before .before .instructions in
+    let at-instruction = c .before .before .before .before .before .before in
+    let instruction = at-instruction .instruction in
+    let loop = at-instruction .before .before .before .before .before .before .before .before .loop in
+    let instructions = at-instruction .before .before .before .before .before .before .before .before .before .before .before .before .before .before .instructions in
     omega (arith, loop .inv .1 .0, instructions .kept .1 .1 .1 .1 .1 .0, instruction .kept .1 .1 .1 .1 .1 .1 .0)
 
 returns-2 : tie.Need-returns-2 Inv-loop μ-loop
 returns-2 c =
+    let burst-done2 = c .burst-done2 in
     let met2 = c .before .match2 in
-    let instruction = c .before .before .before .before .before .before .instruction in
-    let fetched = c .before .before .before .before .before .before .before .before .before .before .fetched in
-    let at-undecoded = c .before .before .before .before .before .before .before .before .before .before .before .before .before in
+    let at-instruction = c .before .before .before .before .before .before in
+    let instruction = at-instruction .instruction in
+    let fetched = at-instruction .before .before .before .before .fetched in
+    let at-undecoded = at-instruction .before .before .before .before .before .before in
     let undecoded = at-undecoded .e in
     let loop = at-undecoded .before .before .loop in
-    let instructions = at-undecoded .before .before .before .before .before .before .before .instructions in
-    let at-given = at-undecoded .before .before .before .before .before .before .before .before .before .before .before .before .before .before in
-    let given = at-given .args in
-    let pre = at-given .pre in
+    let instructions = at-undecoded .before .before .before .before .before .before .before .before .instructions in
+    let given = at-undecoded .before .before .before .before .before .before .before .before .before .before .before .before .before .before .before .args in
+    let pre = at-undecoded .before .before .before .before .before .before .before .before .before .before .before .before .before .before .before .pre in
     let p = loop .inv .1 .1 .1 _ _ (paused-start _ _ _ _ (instructions .kept .1 .1 .1 .1 .0) (instructions .ensures (given .c) refl refl refl)) in
-    rw (c .burst-done2 .ensures) (float-early _ _ _ _ p (undecoded .given .1) (pre .1) (rw (fetched .ensures) at (instruction .ensures)) (not-ok _ (met2 .keys2)))
+    rw (burst-done2 .ensures) (float-early _ _ _ _ p (undecoded .given .1) (pre .1) (rw (fetched .ensures) at (instruction .ensures)) (not-ok _ (met2 .keys2)))
 
 add-n : tie.Need-add-n Inv-loop μ-loop
 add-n c =
-    let undecoded = c .before .before .before .before .before .before .before .before .before .before .before .before .before .before .before .e in
-    let at-loop = c .before .before .before .before .before .before .before .before .before .before .before .before .before .before .before .before .before in
-    let loop = at-loop .loop in
-    let instructions = at-loop .before .before .before .before .before .instructions in
-    let given = at-loop .before .before .before .before .before .before .before .before .before .before .before .before .args in
-    let fits = at-loop .before .before .before .before .before .before .before .before .before .before .before .before .fits in
+    let at-undecoded = c .before .before .before .before .before .before .before .before .before .before .before .before .before .before in
+    let undecoded = at-undecoded .e in
+    let loop = at-undecoded .before .before .loop in
+    let instructions = at-undecoded .before .before .before .before .before .before .before .before .instructions in
+    let given = at-undecoded .before .before .before .before .before .before .before .before .before .before .before .before .before .before .before .args in
+    let fits = at-undecoded .before .before .before .before .before .before .before .before .before .before .before .before .before .before .before .fits in
     let p = loop .inv .1 .1 .1 _ _ (paused-start _ _ _ _ (instructions .kept .1 .1 .1 .1 .0) (instructions .ensures (given .c) refl refl refl)) in
     omega (arith, undecoded-below p (undecoded .given .1), fits)
 
-instructions-requires-2 : tie.Need-instructions-requires-2 Inv-loop μ-loop
-instructions-requires-2 c κs =
-    let instruction = c .before .before .before .before .before .before .before .before .before .before .before .before .instruction in
-    let at-undecoded = c .before .before .before .before .before .before .before .before .before .before .before .before .before .before .before .before .before .before .before in
+resumed-requires : tie.Need-resumed-requires Inv-loop μ-loop
+resumed-requires c κs =
+    let at-instruction = c .before .before .before .before .before .before .before .before .before .before .before .before in
+    let instruction = at-instruction .instruction in
+    let at-undecoded = at-instruction .before .before .before .before .before .before in
     let undecoded = at-undecoded .e in
     let loop = at-undecoded .before .before .loop in
-    let instructions = at-undecoded .before .before .before .before .before .before .before .instructions in
-    let at-given = at-undecoded .before .before .before .before .before .before .before .before .before .before .before .before .before .before in
-    let given = at-given .args in
+    let instructions = at-undecoded .before .before .before .before .before .before .before .before .instructions in
+    let given = at-undecoded .before .before .before .before .before .before .before .before .before .before .before .before .before .before .before .args in
     let p = loop .inv .1 .1 .1 _ _ (paused-start _ _ _ _ (instructions .kept .1 .1 .1 .1 .0) (instructions .ensures (given .c) refl refl refl)) in
     (instruction .ensures .good, omega (arith, undecoded-below p (undecoded .given .1)))
 
 loop-less : tie.Need-loop-less Inv-loop μ-loop
 loop-less c =
-    let instructions2 = c .before .before .before .before .instructions2 in
-    let at-instruction = c .before .before .before .before .before .before .before .before .before .before .before .before .before .before .before .before .before in
+    let resumed = c .before .before .before .before .before .resumed in
+    let at-instruction = c .before .before .before .before .before .before .before .before .before .before .before .before .before .before .before .before .before .before in
     let instruction = at-instruction .instruction in
-    let undecoded = at-instruction .before .before .before .before .before .before .before .e in
-    let loop = at-instruction .before .before .before .before .before .before .before .before .before .loop in
-    let at-instructions = at-instruction .before .before .before .before .before .before .before .before .before .before .before .before .before .before in
-    let instructions = at-instructions .instructions in
-    let given = at-instructions .before .before .before .before .before .before .before .args in
+    let at-undecoded = at-instruction .before .before .before .before .before .before in
+    let undecoded = at-undecoded .e in
+    let loop = at-undecoded .before .before .loop in
+    let instructions = at-undecoded .before .before .before .before .before .before .before .before .instructions in
+    let given = at-undecoded .before .before .before .before .before .before .before .before .before .before .before .before .before .before .before .args in
     let p = loop .inv .1 .1 .1 _ _ (paused-start _ _ _ _ (instructions .kept .1 .1 .1 .1 .0) (instructions .ensures (given .c) refl refl refl)) in
-    let after = instructions2 .ensures (reached (given .c) _ (instruction .result .floats)) refl refl refl in
+    let after = resumed .ensures (reached (given .c) _ (instruction .result .floats)) refl refl refl in
     omega (arith, undecoded-below p (undecoded .given .1), after .later)
 
 loop-again : tie.Need-loop-again Inv-loop μ-loop
 loop-again c =
-    let instructions2 = c .before .before .before .before .instructions2 in
-    let told = c .before .before .before .before .before .before .before .before .before .before .before .enum-told in
-    let at-instruction = c .before .before .before .before .before .before .before .before .before .before .before .before .before .before .before .before .before in
+    let resumed = c .before .before .before .before .before .resumed in
+    let at-told = c .before .before .before .before .before .before .before .before .before .before .before .before in
+    let told = at-told .enum-told in
+    let at-instruction = at-told .before .before .before .before .before .before in
     let instruction = at-instruction .instruction in
     let fetched = at-instruction .before .before .before .before .fetched in
-    let undecoded = at-instruction .before .before .before .before .before .before .before .e in
-    let loop = at-instruction .before .before .before .before .before .before .before .before .before .loop in
-    let at-loop = at-instruction .before .before .before .before .before .before .before .before .before in
-    let at-given = at-loop .before .before .before .before .before .before .before .before .before .before .before .before in
-    let given = at-given .args in
-    let pre = at-given .pre in
-    let after = instructions2 .ensures (reached (given .c) _ (instruction .result .floats)) refl refl refl in
+    let at-undecoded = at-instruction .before .before .before .before .before .before in
+    let undecoded = at-undecoded .e in
+    let loop = at-undecoded .before .before .loop in
+    let given = at-undecoded .before .before .before .before .before .before .before .before .before .before .before .before .before .before .before .args in
+    let pre = at-undecoded .before .before .before .before .before .before .before .before .before .before .before .before .before .before .before .pre in
+    let after = resumed .ensures (reached (given .c) _ (instruction .result .floats)) refl refl refl in
     let size = instruction .kept .1 .1 .1 .1 .1 in
-    let size2 = instructions2 .kept .1 .1 .1 .1 in (
+    let size2 = resumed .kept .1 .1 .1 .1 in (
       omega (arith, loop .inv .0, size .0, size2 .0),
       (
         omega (arith, loop .inv .1 .0, size .1 .0, size2 .1 .0),
@@ -184,6 +189,6 @@ floating-burst-spec =
     same-length-4
     returns-2
     add-n
-    instructions-requires-2
+    resumed-requires
     loop-less
     loop-again)
