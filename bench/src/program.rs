@@ -98,16 +98,17 @@ pub fn flow_meter() -> Vec<u32> {
     ]
 }
 
-/// The litres of a flow meter with two other instructions after each floating one: no two floating ones follow each other. Of 22 steps a round seven are floating.
+/// The litres of a flow meter, floating and other instructions in turn: no two floating ones follow each other. Of 17 steps a round eight are floating.
 pub fn flow_meter_apart() -> Vec<u32> {
     [
-        [op(CUD, 0), op(LL, -36), op(ADDI, 1)],
-        [op(LBLD, FACTOR), op(SL, -36), op(LBA, 0)],
-        [op(MULF, 0), op(LL, -40), op(ADDI, 4)],
-        [op(LBLD, TOTAL), op(ANDI, 0x3c), op(SL, -40)],
-        [op(ADDF, 0), op(XORI, 0x55), op(SHRI, 1)],
-        [op(SLD, TOTAL), op(LL, -36), op(ORI, 1)],
-        [op(SLF, SINGLE), op(LL, -40), op(LX, 0x4000)],
+        [op(CUD, 0), op(LL, -36)],
+        [op(LBLD, FACTOR), op(ADDI, 1)],
+        [op(MULF, 0), op(SL, -36)],
+        [op(LBLD, TOTAL), op(LL, -40)],
+        [op(ADDF, 0), op(ADDI, 4)],
+        [op(SLD, TOTAL), op(ANDI, 0x3c)],
+        [op(SLF, SINGLE), op(SL, -40)],
+        [op(LBLD, LIMIT), op(LX, 0x4000)],
     ]
     .concat()
 }

@@ -100,9 +100,9 @@ fn doubles_stand_alone() {
         let is_floating: Vec<bool> =
             work.program.iter().map(|word| floating.contains(&(word & 0xff))).collect();
         assert!(is_floating.windows(2).all(|pair| pair != [true, true]), "{name}");
-        let seen = seen(&work, 22 * 1000);
+        let seen = seen(&work, 17 * 1000);
         let made: usize = floating.iter().map(|code| seen.opcodes[code]).sum();
-        assert_eq!((made, seen.traps), (7 * 1000, 0), "{name}");
+        assert_eq!((made, seen.traps), (8 * 1000, 0), "{name}");
         assert!(f64::from_bits(seen.machine.f).is_normal(), "{name}");
     }
 }
