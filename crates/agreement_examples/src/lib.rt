@@ -1,4 +1,6 @@
 // Demand 3 is not empty: both machines translate. This crate has computed examples, and no code but this.
+#![tactic(auto)]
+
 ghost use Rattle.std.specs.Prelude.{◌≡◌};
 
 // The number of examples.

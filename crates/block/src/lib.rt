@@ -1,4 +1,6 @@
 // Document 01, "Opcodes": the block instructions, one byte a step.
+#![tactic(auto)]
+
 ghost use Rattle.std.specs.Prelude.{◌≡◌, [], length};
 ghost use Rattle.decode.specs.declared.BlockOp.TheVariants.{Mcpy, Mcmp, Mchr, Mset};
 ghost use Rattle.mmu.specs.Good.{Good};

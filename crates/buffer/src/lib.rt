@@ -1,4 +1,6 @@
 // Document 01, "Addresses", and document 02, item 6: the page buffer, lent as one array of numbers, with a counter of table walks.
+#![tactic(auto)]
+
 ghost use Rattle.std.specs.Prelude.{◌≡◌, ◌+◌, ◌*◌, ◌/◌, ◌%◌, ◌^◌, ◌<◌, ◌≤◌, [], length, slice_set};
 ghost use Rattle.paging.specs.Buffer.{serves, keep};
 ghost use Rattle.paging.specs.Counting.{counted};

@@ -1,4 +1,6 @@
 // Document 01, "One step", rules 1 to 3, and document 02, item 1: the step count, the next key, the timer; what is pending, and what is due.
+#![tactic(auto)]
+
 ghost use Rattle.std.specs.Prelude.{◌≡◌, ◌+◌, ◌<◌, ◌^◌};
 ghost use Rattle.rules.specs.Clock.{key_comes, keyed, timed, ticked, due_of, cleared};
 ghost use Rattle.clock.specs.Taken.{KeyFits};

@@ -1,4 +1,6 @@
 // Document 01, "One step", the order of faults, and document 02, item 7: how an instruction ends, in code.
+#![tactic(auto)]
+
 ghost use Rattle.std.specs.Prelude.{◌≡◌};
 ghost use Rattle.rules.specs.Record.{with_a, with_b, with_c, with_sp, with_pc};
 ghost use Rattle.contracts.specs.Contract.{ok, bad, fault_of, refused_by};

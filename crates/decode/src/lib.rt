@@ -1,4 +1,6 @@
 // Instructions and their decoding: document 01, "Opcodes". The opcodes are those of source 000.
+#![tactic(auto)]
+
 ghost use Rattle.std.specs.Prelude.{◌≡◌};
 ghost use Rattle.decode.specs.Opcodes.{opcode_of, decode_of};
 

@@ -1,4 +1,6 @@
 // Document 02, item 7: doubles. A number is its 64-bit pattern; an f64 exists only within a function, after its NaN test.
+#![tactic(auto)]
+
 ghost use Rattle.std.specs.Prelude.{◌≡◌, ◌*◌, ◌^◌, ◌<◌, ◌≤◌, ◌||◌, pos};
 ghost use Rattle.std.specs.Float.Ieee.{nan_bits, to_unsigned, of_int};
 ghost use Rattle.std.specs.Float.{binary32, binary64};

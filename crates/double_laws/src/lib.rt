@@ -1,4 +1,6 @@
 // Laws of doubles and singles, document 02, item 7. This crate has proofs, and no code but this.
+#![tactic(auto)]
+
 ghost use Rattle.std.specs.Prelude.{◌≡◌};
 
 // The single that a narrowed NaN is.

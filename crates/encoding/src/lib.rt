@@ -1,4 +1,6 @@
 // Document 02, item 5: the parts of a saved machine's file, over a slice from a place on: numbers of four bytes or of eight, and entries of the page buffer.
+#![tactic(auto)]
+
 ghost use Rattle.std.specs.Prelude.{◌+◌, ◌*◌, ◌^◌, ◌≤◌, ◌<◌, ◌≡◌, length, take};
 ghost use Rattle.memory.specs.Memory.{load_n};
 ghost use Rattle.text.specs.Written.{Written};

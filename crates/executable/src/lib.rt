@@ -1,4 +1,6 @@
 // Document 01, "Numbers returned": a load's refusals, apart from any machine.
+#![tactic(auto)]
+
 ghost use Rattle.std.specs.Prelude.{◌≡◌, ◌+◌, ◌-◌};
 ghost use Rattle.executable.specs.Executable.{load_number, body_ok, entry_ok, load_answer};
 

@@ -1,4 +1,6 @@
 // Document 01, "Opcodes": every ordinary instruction, and the fetch.
+#![tactic(auto)]
+
 ghost use Rattle.std.specs.Prelude.{◌≡◌, [], ◌+◌, ◌<◌, ◌^◌, length};
 ghost use Rattle.decode.specs.declared.Operand.TheVariants.{Stack};
 ghost use Rattle.mmu.specs.Good.{Good};

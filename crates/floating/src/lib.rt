@@ -1,4 +1,6 @@
 // Document 02, item 7: every floating instruction. pc has moved on.
+#![tactic(auto)]
+
 ghost use Rattle.std.specs.Prelude.{◌≡◌, [], length};
 ghost use Rattle.floating_decode.specs.Opcodes.{floating_decode_of};
 ghost use Rattle.mmu.specs.Good.{Good};

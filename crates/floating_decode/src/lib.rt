@@ -1,4 +1,6 @@
 // Document 02, item 7: the floating instructions and their decoding. The opcodes are those of source 000.
+#![tactic(auto)]
+
 ghost use Rattle.std.specs.Prelude.{◌≡◌, ◌<◌};
 ghost use Rattle.floating_decode.specs.Opcodes.{floating_opcode_of, floating_decode_of};
 ghost use Rattle.floating_decode.specs.Listed.{is_listed, QuarterSet};

@@ -1,5 +1,7 @@
 // Document 01, "The record and the loaded program": "The keys come as a list of records, each a step number and a byte"; as structs, and
 // packed in bytes.
+#![tactic(auto)]
+
 ghost use Rattle.std.specs.Prelude.{◌≡◌, ◌&&◌, leb};
 ghost use Rattle.rules.specs.Run.{keys_rise};
 ghost use Rattle.rules.specs.Clock.{next_of};

@@ -1,5 +1,7 @@
 // A program that links the emulator (README.md, "Linking the library"): it loads an executable, runs it until a key comes, makes two single steps, runs it to
 // its end, and is refused once. What it calls has no `requires`, so that it is proved without a line of proof.
+#![tactic(auto)]
+
 use rules::Machine;
 use runs::RunResult;
 

@@ -1,4 +1,6 @@
 // Document 02, item 2: the printed listing of a program, one line a word, and a listed line back to its address and word.
+#![tactic(auto)]
+
 ghost use Rattle.std.specs.Prelude.{◌≡◌, ◌+◌, ◌^◌, ◌<◌, ◌≤◌, length, get_or};
 ghost use Rattle.memory.specs.Memory.{load_n};
 ghost use Rattle.listing.specs.Listing.{refused_line, word_line, line_of, Shown};

@@ -1,4 +1,6 @@
 // Document 01, "The record and the loaded program": what a load gives.
+#![tactic(auto)]
+
 ghost use Rattle.std.specs.Prelude.{◌≡◌, ◌≤◌, length};
 ghost use Rattle.executable.specs.Executable.{body_of};
 ghost use Rattle.rules.specs.Load.{cpu_with, empty_machine, image};

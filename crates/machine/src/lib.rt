@@ -1,4 +1,6 @@
 // Document 01, "One step", and document 02, item 7: instructions one after another, a step, and a run's advance.
+#![tactic(auto)]
+
 ghost use Rattle.std.specs.Prelude.{◌≡◌, true, ◌+◌, ◌≤◌, ◌<◌, ◌^◌, length};
 ghost use Rattle.mmu.specs.Good.{Good};
 ghost use Rattle.rules.specs.Record.{with_count, with_regs, with_floats};

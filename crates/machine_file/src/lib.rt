@@ -1,4 +1,6 @@
 // Document 02, item 5: the file of a saved machine without its memory: the header with what follows from its counts, and the blocks of registers and entries.
+#![tactic(auto)]
+
 pub mod layout;
 pub mod registers;
 

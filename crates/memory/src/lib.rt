@@ -1,4 +1,6 @@
 // Memory: document 01, "What is emulated" and refusal 1.
+#![tactic(auto)]
+
 ghost use Rattle.std.specs.Prelude.{◌≡◌, ◌+◌, ◌≤◌, length};
 ghost use Rattle.memory.specs.Memory.{load_n, store_n, bytes, size_ok};
 

@@ -1,4 +1,6 @@
 // Document 01, "Addresses": translation of an address, by a hint, by the page buffer or by a page table walk.
+#![tactic(auto)]
+
 ghost use Rattle.std.specs.Prelude.{◌≡◌, ◌+◌, ◌*◌, ◌/◌, ◌%◌, ◌<◌, length};
 ghost use Rattle.word.specs.Word.{cut};
 ghost use Rattle.memory.specs.Memory.{bytes};

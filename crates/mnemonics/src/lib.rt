@@ -1,4 +1,6 @@
 // Document 02, item 2: the line of a word in a listing.
+#![tactic(auto)]
+
 ghost use Rattle.std.specs.Prelude.{◌≡◌, ◌+◌, ◌<◌, ◌≤◌, length, get_or};
 ghost use Rattle.text.specs.Hex.{hex_of};
 ghost use Rattle.text.specs.Signed.{signed_of};

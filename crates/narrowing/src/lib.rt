@@ -1,4 +1,6 @@
 // Document 02, item 7: a double "narrowed to nearest, ties to even". Rattle has no cast that rounds, so the single's pattern is computed in integers.
+#![tactic(auto)]
+
 ghost use Rattle.std.specs.Prelude.{◌≡◌, ◌<◌, ◌^◌};
 ghost use Rattle.std.specs.Float.Ieee.Nearest.{closest};
 ghost use Rattle.double.specs.Single.{single_of};

@@ -1,4 +1,6 @@
 // Document 01, "Opcodes": what operations and tests give, and what instructions make of the registers alone. pc has moved on.
+#![tactic(auto)]
+
 ghost use Rattle.std.specs.Prelude.{◌≡◌};
 ghost use Rattle.word.specs.Word.{if◌then◌else◌, sum};
 ghost use Rattle.rules.specs.Record.{set_sp};

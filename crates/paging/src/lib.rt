@@ -1,4 +1,6 @@
 // Document 01, "Addresses", and document 02, item 4: what walk, page buffer and translation speak of.
+#![tactic(auto)]
+
 ghost use Rattle.std.specs.Prelude.{◌≡◌};
 ghost use Rattle.paging.specs.Walk.{is_write};
 

@@ -1,5 +1,7 @@
 // Document 01, "The record and the loaded program": the record as one list of numbers, in the order of its sentences, with document 02's marks after the flags and
 // its mode, f and g after the step count; keys taken and console bytes written stand beside it.
+#![tactic(auto)]
+
 ghost use Rattle.std.specs.Prelude.{◌≡◌};
 ghost use Rattle.rules.specs.Arithmetic.{flag};
 ghost use Rattle.rules.specs.Numbers.{numbers_of, stop_of, cause_of, record_of_low};

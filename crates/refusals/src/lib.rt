@@ -1,4 +1,6 @@
 // Document 01, "Numbers returned": a run's refusals.
+#![tactic(auto)]
+
 ghost use Rattle.std.specs.Prelude.{◌≡◌, ◌≤◌, take, drop};
 ghost use Rattle.rules.specs.Run.{registers_ok};
 ghost use Rattle.paging.specs.Buffer.{has, entry_page, entry_ok, buffer_ok};

@@ -1,4 +1,6 @@
 // Document 01, "Worked lines": the line that the run program prints.
+#![tactic(auto)]
+
 ghost use Rattle.std.specs.Prelude.{◌+◌, ◌≤◌, length};
 ghost use Rattle.rules.specs.Record.{stop_number};
 ghost use Rattle.result_line.specs.Line.{refused_line, stop_line, Shows};

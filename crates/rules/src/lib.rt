@@ -1,4 +1,6 @@
 // Document 01, "The record and the loaded program", and document 02, items 1, 4 and 7: the record, in groups by who writes them.
+#![tactic(auto)]
+
 ghost use Rattle.std.specs.Prelude.{◌≡◌};
 ghost use Rattle.rules.specs.Record.{stop_number, cause_number, is_running};
 ghost use Rattle.rules.specs.Clock.{interrupt_code};

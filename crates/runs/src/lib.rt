@@ -1,4 +1,6 @@
 // Document 01, "Numbers returned": a run begins, refused or accepted, and goes on from key to key.
+#![tactic(auto)]
+
 ghost use Rattle.std.specs.Prelude.{◌≡◌, length};
 ghost use Rattle.clock.specs.Taken.{KeyFits};
 ghost use Rattle.machine.specs.Advance.{Ready};

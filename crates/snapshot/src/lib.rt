@@ -1,4 +1,6 @@
 // Document 02, item 5: a machine carried in a file: saved, and read back. Everything is judged before anything is written.
+#![tactic(auto)]
+
 ghost use Rattle.std.specs.Prelude.{◌≡◌, ◌<◌, ◌^◌, length};
 ghost use Rattle.text.specs.Written.{Written};
 ghost use Rattle.machine_file.specs.Layout.{file_of};

@@ -1,4 +1,6 @@
 // Document 01, "Opcodes": the privileged instructions, over the whole record.
+#![tactic(auto)]
+
 ghost use Rattle.std.specs.Prelude.{◌≡◌, List, ℕ, length};
 ghost use Rattle.mmu.specs.Good.{Good};
 ghost use Rattle.rules.specs.System.{bout_tree, privileged_tree, system_tree};

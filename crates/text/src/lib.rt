@@ -1,4 +1,6 @@
 // Document 01, "Worked lines", and document 02, item 2: bytes and numbers written into a lent line.
+#![tactic(auto)]
+
 ghost use Rattle.std.specs.Prelude.{◌+◌, ◌<◌, ◌≤◌, [], ◌∷◌, length};
 ghost use Rattle.text.specs.Digits.{decimal_of, digit_of};
 ghost use Rattle.text.specs.Signed.{signed_of};

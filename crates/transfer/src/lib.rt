@@ -1,4 +1,6 @@
 // Document 01, "Opcodes": loads, stores and the stack. pc has moved on.
+#![tactic(auto)]
+
 ghost use Rattle.std.specs.Prelude.{◌≡◌, [], ◌+◌, ◌≤◌, length};
 ghost use Rattle.memory.specs.Memory.{load_n, bytes};
 ghost use Rattle.mmu.specs.Good.{Good};

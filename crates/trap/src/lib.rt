@@ -1,4 +1,6 @@
 // Document 01, "Traps", and document 02, items 1 and 4: delivery, and the stops.
+#![tactic(auto)]
+
 ghost use Rattle.std.specs.Prelude.{◌≡◌, List, ℕ, length};
 ghost use Rattle.mmu.specs.Good.{Good};
 ghost use Rattle.rules.specs.declared.Stop.TheVariants.{Masked, NoFrame};

@@ -1,4 +1,6 @@
 // Document 01, "Numbers returned": a run, with keys packed in bytes or as structs, and the single step.
+#![tactic(auto)]
+
 ghost use Rattle.std.specs.Prelude.{◌≡◌};
 ghost use Rattle.rules.specs.Run.{run_number};
 ghost use Rattle.keys.specs.Packed.{unpacked};

@@ -1,5 +1,7 @@
 // Document 01, "Worked lines": the run program's line of many executables. Each comes on standard input with its length in front, four bytes, the
 // lowest first, and is run in a machine of its own. The end of input or a file that is cut off ends them; then lines are compared with constant byte strings.
+#![tactic(auto)]
+
 ghost use Rattle.std.specs.Prelude.{◌≤◌, min, ◌≡◌, length};
 
 mod constants;

@@ -1,4 +1,5 @@
 // Document 02, item 2: the listing program. It reads an executable from standard input and prints its listing, one line a word.
+#![tactic(auto)]
 
 // The line of a number. The result: whether there was one, and it was written.
 fn print_line(file: &[u8], n: usize) -> bool {

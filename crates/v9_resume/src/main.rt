@@ -1,5 +1,7 @@
 // Document 02, item 5: the resuming program. It reads a saved machine of 32,768 bytes from standard input, runs on with no keys and a budget of 100,000, and prints
 // the run program's line.
+#![tactic(auto)]
+
 use rules::{Regs, Stop};
 
 fn print_stop(stop: Stop, steps: u64, r: Regs) {

@@ -1,4 +1,6 @@
 // Document 01, "Worked lines": the run program. It reads an executable from standard input into a machine of 32,768 bytes, and prints its line.
+#![tactic(auto)]
+
 fn main() {
     // The longest that can be accepted, 16 + 32,768 bytes, and one more, by which a longer one is refused.
     let mut file = [0u8; 32785];

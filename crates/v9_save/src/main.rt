@@ -1,5 +1,7 @@
 // Document 02, item 5: the saving program. It reads an executable from standard input, runs it as the run program does, and writes the machine, saved. A refused
 // load writes the run program's line to standard error, and no machine.
+#![tactic(auto)]
+
 use rules::Machine;
 
 // The machine of a run, saved: the longest has 64 entries, 4,096 console bytes and 32,768 bytes of memory. A run leaves nothing that saving refuses.

@@ -1,4 +1,6 @@
 // Document 01, "Addresses", and document 02, item 4: the page table walk.
+#![tactic(auto)]
+
 ghost use Rattle.std.specs.Prelude.{◌≡◌, true, ◌+◌, ◌<◌, ◌≤◌, length};
 ghost use Rattle.paging.specs.TrapCode.{page_fault};
 ghost use Rattle.paging.specs.Walk.{bit, mark, mark_for, user_ok, write_ok, allows, refused_by, walk};
