@@ -82,7 +82,7 @@ def table(root):
         if CAMEL.match(t):
             rows[t] = snake(t)
     for n in names:
-        if "-" not in n or "◌" in n or n.startswith("-") or n.endswith("-"):
+        if n == "eq-eqb" or "-" not in n or "◌" in n or n.startswith("-") or n.endswith("-"):
             continue
         parts = ["get_or" if p == "getD" else snake(p) if CAMEL.match(p) else p for p in n.split("-")]
         # the dash stays behind a word of std, the outer call of the lemma's left side

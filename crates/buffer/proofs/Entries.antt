@@ -1,5 +1,5 @@
 -- Laws of the rules alone: among entries that refusal 3 lets pass, the entry of a page alone decides a hit, and its frame is in memory.
-use Rattle.std.proofs.Common.{◌≡◌, ℕ, zero, suc, ◌/◌, ◌<◌, Bool, true, false, cond, not, ◌&&◌, ◌||◌, eqb, ltb, leb, List, [], ◌∷◌, length, get_or, sym, refl, ◌∙◌, arith, ltb-true, eq_eqb, ne_eqb, eqb-true}
+use Rattle.std.proofs.Common.{◌≡◌, ℕ, zero, suc, ◌/◌, ◌<◌, Bool, true, false, cond, not, ◌&&◌, ◌||◌, eqb, ltb, leb, List, [], ◌∷◌, length, get_or, sym, refl, ◌∙◌, arith, ltb-true, eq-eqb, ne_eqb, eqb-true}
 use mathlib.Core.Option.{none, some}
 use borrow.Author.Tests.{not-true}
 use Rattle.word.specs.Word.{if◌then◌else◌}
@@ -43,7 +43,7 @@ hit_none p k user (x ∷ xs) h = go (eqb x.page p) h (hit_none p k user xs)
 has_at : (p : ℕ) (es : List Entry) (i : ℕ) → i < length es → (get_or es i (unpack 0)).page ≡ p → has entry_page p es ≡ true
 unfolding has
 has_at p [] i l q = absurd (omega arith)
-has_at p (x ∷ xs) zero l q = rw (eq_eqb _ _ q)
+has_at p (x ∷ xs) zero l q = rw (eq-eqb _ _ q)
 has_at p (x ∷ xs) (suc i) l q = go (eqb x.page p) (has_at p xs i (omega arith) q)
   where
     go : (b : Bool) → has entry_page p xs ≡ true → (b || has entry_page p xs) ≡ true
@@ -57,7 +57,7 @@ unfolding hit
 hit_at n p k user [] i h l q = absurd (omega arith)
 hit_at n p k user (x ∷ xs) zero h l q =
     let d : has entry_page p xs ≡ false = rw q at (parts n x xs h).once in
-    rw (eq_eqb _ _ q, hit_none p k user xs d)
+    rw (eq-eqb _ _ q, hit_none p k user xs d)
 hit_at n p k user (x ∷ xs) (suc i) h l q =
     let l' : i < length xs = omega arith in
     let d : (x.page ≡ p → ⊥) = λ r.

@@ -1,5 +1,5 @@
 -- What a slot gives: each way through the code, and what it says of the rules' hit.
-use Rattle.std.proofs.Common.{◌≡◌, ℕ, ◌<◌, ◌≤◌, Bool, true, false, cond, ◌&&◌, eqb, ltb, List, get_or, sym, refl, ap, ◌∙◌, ltb-false, ltb-true, le-ltb, lt-ltb, eq_eqb, eqb-true}
+use Rattle.std.proofs.Common.{◌≡◌, ℕ, ◌<◌, ◌≤◌, Bool, true, false, cond, ◌&&◌, eqb, ltb, List, get_or, sym, refl, ap, ◌∙◌, ltb-false, ltb-true, le-ltb, lt-ltb, eq-eqb, eqb-true}
 use mathlib.Core.Option.{none, some}
 use Rattle.word.specs.Word.{if◌then◌else◌}
 use Rattle.paging.specs.declared.Access.{Access}
@@ -57,7 +57,7 @@ module _ (l : List ℕ) (i p : ℕ) (k : Access) (user : Bool) where
             let t : i < count l = ltb-true _ _ a in
             let q : here.page ≡ p =
             ap (λ (x : Entry). x.page) (sym (held_at l i t)) ∙ (ap (λ (j : ℕ). (get_or (entries_in l) j (unpack 0)).page) w ∙ index_page p (entries_in l) (rw (← w, length-held l b) t)) in
-            decides t q ∙ turn z d (rw (eq_eqb _ _ q) at g)
+            decides t q ∙ turn z d (rw (eq-eqb _ _ q) at g)
           where
             turn : (z : Bool) → serves here k user ≡ z → (if z then Frame here.frame else Miss) ≡ Miss
                 → cond (serves here k user) (some here.frame) none ≡ none

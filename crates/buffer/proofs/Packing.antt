@@ -1,5 +1,5 @@
 -- The number of an entry, and the rights read from it.
-use Rattle.std.proofs.Common.{◌≡◌, ℕ, ◌+◌, ◌*◌, ◌/◌, ◌%◌, ◌<◌, ◌≤◌, Bool, true, false, arith, eq_eqb, ne_eqb}
+use Rattle.std.proofs.Common.{◌≡◌, ℕ, ◌+◌, ◌*◌, ◌/◌, ◌%◌, ◌<◌, ◌≤◌, Bool, true, false, arith, eq-eqb, ne_eqb}
 use mir.Val.{bool_byte}
 use Rattle.paging.specs.Walk.{bit}
 use Rattle.buffer.specs.Held.{page_unit, frame_unit, frames, page_in, frame_in, entry, unpack}
@@ -10,7 +10,7 @@ bool_le false = omega arith
 
 bit_bool : (k n : ℕ) (u : Bool) → n / k % 2 ≡ bool_byte u → bit k n ≡ u
 unfolding bit
-bit_bool k n true e = eq_eqb _ _ e
+bit_bool k n true e = eq-eqb _ _ e
 bit_bool k n false e = ne_eqb _ _ (λ (q : n / k % 2 ≡ 1). omega arith)
 
 pub pack_is : (p f : ℕ) (u w : Bool) → f < frames → unpack (p * page_unit + (f * frame_unit + (bool_byte u * 2 + bool_byte w))) ≡ entry p f u w

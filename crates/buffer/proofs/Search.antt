@@ -1,5 +1,5 @@
 -- The search for a page in the lent array, one law a turn of its loop.
-use Rattle.std.proofs.Common.{◌≡◌, ℕ, ◌+◌, ◌<◌, ◌≤◌, List, length, get_or, drop, sym, ap, ◌∙◌, add-zero, add-one, arith, drop_of_length-le, drop-cons, eq_eqb, ne_eqb}
+use Rattle.std.proofs.Common.{◌≡◌, ℕ, ◌+◌, ◌<◌, ◌≤◌, List, length, get_or, drop, sym, ap, ◌∙◌, add-zero, add-one, arith, drop_of_length-le, drop-cons, eq-eqb, ne_eqb}
 use Rattle.paging.specs.declared.Entry.{Entry}
 use Rattle.buffer.specs.Held.{page_in, count, unpack, entries_in, index_of, Buffer}
 use Rattle.buffer.proofs.Slots.{length-held, held_at}
@@ -11,7 +11,7 @@ Passed p es i = index_of p es ≡ i + index_of p (drop i es)
 module _ (p : ℕ) (es : List Entry) (i : ℕ) (h : Passed p es i) where
   index_here : i < length es → (get_or es i (unpack 0)).page ≡ p → index_of p es ≡ i
   unfolding index_of
-  index_here l e = h ∙ rw (drop-cons es i (unpack 0) l, eq_eqb _ _ e) (add-zero i)
+  index_here l e = h ∙ rw (drop-cons es i (unpack 0) l, eq-eqb _ _ e) (add-zero i)
 
   index_next : i < length es → ((get_or es i (unpack 0)).page ≡ p → ⊥) → Passed p es (i + 1)
   unfolding index_of

@@ -4,7 +4,7 @@ use native.Mathlib.Omega.{arith}
 use mathlib.Core.Path.{◌≡◌, refl, sym, ◌∙◌}
 use mathlib.Core.Bool.{Bool, true, false, ◌&&◌}
 use lib.Dec.{ltb}
-use borrow.Author.Tests.{ltb-true, ltb-false, eq_eqb, ne_eqb, lt-ltb, le-ltb}
+use borrow.Author.Tests.{ltb-true, ltb-false, eq-eqb, ne_eqb, lt-ltb, le-ltb}
 use Rattle.word.specs.Word.{if◌then◌else◌}
 use Rattle.rules.specs.declared.Clock.{Clock}
 use Rattle.rules.specs.declared.Cpu.{Cpu}
@@ -63,7 +63,7 @@ module _ (k : Next) (count left : ℕ) where
 module _ (t : Clock) (left : ℕ) where
   pub timer_off : t.timeout ≡ 0 → left ≡ before_timer t left
   unfolding before_timer
-  timer_off e = rw (eq_eqb _ _ e)
+  timer_off e = rw (eq-eqb _ _ e)
 
   module _ (e : t.timeout ≡ 0 → ⊥) where
     pub timer_now : t.timeout ≤ t.timer → 0 ≡ before_timer t left

@@ -1,5 +1,5 @@
 -- Document 02, item 7: FLOR and CEIL, whose zeros keep the operand's sign. The direction is open: the whole number next to a value, away from zero or toward it.
-use Rattle.std.proofs.Common.{◌≡◌, ℕ, ◌+◌, ◌-◌, ◌*◌, ◌%◌, ◌^◌, ◌<◌, ◌≤◌, Bool, true, false, cond, not, ◌&&◌, eqb, ltb, leb, ℤ, pos, sym, refl, ap, ◌∙◌, add-zero, div-add-mod', mul-one, arith, lit≤, le-ltb, lt-ltb, eq_eqb, ne_eqb, eqb-true, leb-false, leb-true}
+use Rattle.std.proofs.Common.{◌≡◌, ℕ, ◌+◌, ◌-◌, ◌*◌, ◌%◌, ◌^◌, ◌<◌, ◌≤◌, Bool, true, false, cond, not, ◌&&◌, eqb, ltb, leb, ℤ, pos, sym, refl, ap, ◌∙◌, add-zero, div-add-mod', mul-one, arith, lit≤, le-ltb, lt-ltb, eq-eqb, ne_eqb, eqb-true, leb-false, leb-true}
 use native.Mathlib.Nat.{mul-mod_left}
 use borrow.Author.Tests.{eqb-false}
 use lib.Ieee.{Float, nan, inf, fin, binary64, up, down, round, of_int, to_unsigned}
@@ -71,7 +71,7 @@ module _ (b : ℕ) (l : b < 2 ^ 64) (k : Small (value_of b)) where
   fraction = ap not (go (eqb rest 0) refl)
     where
       go : (z : Bool) → eqb rest 0 ≡ z → eqb (pattern_of (of_int binary64 (pos part))) b ≡ z
-      go true e = eq_eqb (pattern_of (of_int binary64 (pos part))) b (same_pattern (eqb-true rest 0 e))
+      go true e = eq-eqb (pattern_of (of_int binary64 (pos part))) b (same_pattern (eqb-true rest 0 e))
       go false e = ne_eqb (pattern_of (of_int binary64 (pos part))) b (λ p. eqb-false rest 0 e (no_rest p))
 
 as_byte : (b : Bool) → bool_byte b ≡ (if b then 1 else 0)

@@ -3,7 +3,7 @@ use mathlib.Core.Path.{◌≡◌, refl, sym, subst}
 use mathlib.Core.Bool.{Bool, true, false, not, ◌&&◌, ◌||◌}
 use Prim.Native.Nat.{ℕ, ◌+◌, ◌*◌, ◌≤◌, ◌<◌}
 use native.Mathlib.Omega.{arith}
-use borrow.Author.Tests.{ltb-true, ltb-false, eq_eqb}
+use borrow.Author.Tests.{ltb-true, ltb-false, eq-eqb}
 use lib.Dec.{T, ltb, eqb, eqb→eq}
 use lib.Ieee.{Float, nan, inf, fin, up, down, below, level, neg, le}
 use lib.Ieee.Exact.{HasValue}
@@ -40,18 +40,18 @@ compared false a false b h = go (ltb a b) refl
   where
     go : (c : Bool) → ltb a b ≡ c → T (c || (eqb a b && true))
     go true e = tt
-    go false e = let l = ltb-false a b e in rw (eq_eqb a b (omega arith)) tt
-compared false a true b h = rw (eq_eqb a b (omega (arith, h.0, h.1)), eq_eqb a 0 (omega (arith, h.0))) tt
+    go false e = let l = ltb-false a b e in rw (eq-eqb a b (omega arith)) tt
+compared false a true b h = rw (eq-eqb a b (omega (arith, h.0, h.1)), eq-eqb a 0 (omega (arith, h.0))) tt
 compared true a false b h = go (ltb 0 (a + b)) refl
   where
     go : (c : Bool) → ltb 0 (a + b) ≡ c → T (c || (eqb a b && eqb a 0))
     go true e = tt
-    go false e = let l = ltb-false 0 (a + b) e in rw (eq_eqb a b (omega arith), eq_eqb a 0 (omega arith)) tt
+    go false e = let l = ltb-false 0 (a + b) e in rw (eq-eqb a b (omega arith), eq-eqb a 0 (omega arith)) tt
 compared true a true b h = go (ltb b a) refl
   where
     go : (c : Bool) → ltb b a ≡ c → T (c || (eqb a b && true))
     go true e = tt
-    go false e = let l = ltb-false b a e in rw (eq_eqb a b (omega arith)) tt
+    go false e = let l = ltb-false b a e in rw (eq-eqb a b (omega arith)) tt
 
 -- ---- two values as fractions
 

@@ -5,7 +5,7 @@ use Prim.Native.Nat.{ℕ, zero, suc, ◌+◌, ◌*◌, ◌/◌, ◌%◌, ◌^◌
 use native.Mathlib.Nat.{add-zero, add_comm, add-mul, mul-one, one-mul, mul_assoc, mul-pos, zero-lt-suc, le_of_lt, mul-lt-mul_of_pos_right, lt_of_mul-lt-mul_right, le_of_mul-le-mul_right}
 use native.Mathlib.Nat.{div-one, mod-one, mod-lt, mul-mod_left, div-le_self, div-mul-le_self, div-add-mod', le-div_iff_mul-le}
 use native.Mathlib.Omega.{arith}
-use borrow.Author.Tests.{eqb-true, eqb-false, eq_eqb}
+use borrow.Author.Tests.{eqb-true, eqb-false, eq-eqb}
 use lib.Dec.{T, eqb, ltb, leb, ltb→lt, eqb→eq}
 use lib.IntN.{ℤ, pos, negsuc}
 use lib.Pow.{pow-add, pow_pos}
@@ -90,7 +90,7 @@ whole_of nan s n h = absurd h
 whole_of (inf t) s n h = absurd h
 whole_of (fin t m e) s n h =
     let z : m * up e % down e ≡ 0 = ap (λ (x : ℕ). x % down e) (sym (mul-one (m * up e)) ∙ h.1) ∙ mul-mod_left n (down e) in
-    rw (eq_eqb (m * up e % down e) 0 z) tt
+    rw (eq-eqb (m * up e % down e) 0 z) tt
 
 twice : (b : Bool) → T (not (not b)) → T b
 twice true t = t

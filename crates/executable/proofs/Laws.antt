@@ -4,7 +4,7 @@ use mathlib.Core.Bool.{Bool, true, false, not}
 use mathlib.Core.Path.{◌≡◌}
 use mathlib.Core.List.{List}
 use lib.ListN.{length}
-use borrow.Author.Tests.{not-true, not-false, lt-leb, le-leb, ne_eqb, eq_eqb}
+use borrow.Author.Tests.{not-true, not-false, lt-leb, le-leb, ne_eqb, eq-eqb}
 use Rattle.memory.specs.Memory.{size_ok}
 use Rattle.executable.specs.declared.LoadAnswer.TheVariants.{Accepted, BadSize, ShortFile, BadMagic, BadBody, BadDataStart, BadEntry}
 use Rattle.executable.specs.Executable.{magic_of, entry_of, data_start_of, body_ok, entry_ok, load_answer}
@@ -27,20 +27,20 @@ module _ (size : ℕ) (file : List ℕ) {s : Bool} (p : s ≡ size_ok size) wher
       module _ (hm : w ≡ 0xc0def00d) {b : Bool} (pb : b ≡ body_ok size (length file - 16)) where
         pub bad_body : not b ≡ true → BadBody ≡ load_answer size file
         unfolding load_answer
-        bad_body e = rw (← p, not-false s hs, le-leb 16 (length file) hl, ← pm, eq_eqb w 0xc0def00d hm, ← pb, not-true b e)
+        bad_body e = rw (← p, not-false s hs, le-leb 16 (length file) hl, ← pm, eq-eqb w 0xc0def00d hm, ← pb, not-true b e)
 
         module _ (hb : not b ≡ false) {t : ℕ} (pt : t ≡ data_start_of file) where
           pub bad_data_start : length file - 16 < t → BadDataStart ≡ load_answer size file
           unfolding load_answer
-          bad_data_start e = rw (← p, not-false s hs, le-leb 16 (length file) hl, ← pm, eq_eqb w 0xc0def00d hm, ← pb, not-false b hb, ← pt, lt-leb t (length file - 16) e)
+          bad_data_start e = rw (← p, not-false s hs, le-leb 16 (length file) hl, ← pm, eq-eqb w 0xc0def00d hm, ← pb, not-false b hb, ← pt, lt-leb t (length file - 16) e)
 
           module _ (ht : t ≤ length file - 16) {n : ℕ} (pn : n ≡ entry_of file) {y : Bool} (py : y ≡ entry_ok n t) where
             pub bad_entry : not y ≡ true → BadEntry ≡ load_answer size file
             unfolding load_answer
             bad_entry e =
-                rw (← p, not-false s hs, le-leb 16 (length file) hl, ← pm, eq_eqb w 0xc0def00d hm, ← pb, not-false b hb, ← pt, le-leb t (length file - 16) ht, ← pn, ← py, not-true y e)
+                rw (← p, not-false s hs, le-leb 16 (length file) hl, ← pm, eq-eqb w 0xc0def00d hm, ← pb, not-false b hb, ← pt, le-leb t (length file - 16) ht, ← pn, ← py, not-true y e)
 
             pub accepted : not y ≡ false → Accepted ≡ load_answer size file
             unfolding load_answer
             accepted e =
-                rw (← p, not-false s hs, le-leb 16 (length file) hl, ← pm, eq_eqb w 0xc0def00d hm, ← pb, not-false b hb, ← pt, le-leb t (length file - 16) ht, ← pn, ← py, not-false y e)
+                rw (← p, not-false s hs, le-leb 16 (length file) hl, ← pm, eq-eqb w 0xc0def00d hm, ← pb, not-false b hb, ← pt, le-leb t (length file - 16) ht, ← pn, ← py, not-false y e)

@@ -5,7 +5,7 @@ use mathlib.Core.List.{List, [], ◌∷◌}
 use mathlib.Core.Path.{◌≡◌, refl, sym, ◌∙◌, ap}
 use native.Mathlib.Numerals.{add-one}
 use native.Mathlib.Omega.{arith}
-use borrow.Author.Tests.{eqb-true, eq_eqb}
+use borrow.Author.Tests.{eqb-true, eq-eqb}
 use lib.Dec.{eqb}
 use lib.ListN.{length, get_or, take}
 use lib.Seq.{take-suc, take_all}
@@ -25,7 +25,7 @@ equal_same (x ∷ xs) (y ∷ ys) e =
 pub equal_refl : (x : List ℕ) → equal x x ≡ true
 unfolding equal
 equal_refl [] = refl
-equal_refl (x ∷ xs) = rw (eq_eqb x x refl, equal_refl xs)
+equal_refl (x ∷ xs) = rw (eq-eqb x x refl, equal_refl xs)
 
 pub same_equal : (x y : List ℕ) → x ≡ y → true ≡ equal x y
 same_equal x y e = sym (rw e (equal_refl y))

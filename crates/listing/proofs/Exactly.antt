@@ -6,7 +6,7 @@ use mathlib.Core.List.{List}
 use mathlib.Core.Logic.{◌⊎◌, inl, inr, ⊎_elim}
 use mathlib.Core.Path.{◌≡◌, refl, sym, ◌∙◌, ap}
 use native.Mathlib.Omega.{arith}
-use borrow.Author.Tests.{leb-true, leb-false, ltb-true, eqb-true, eq_eqb, lt-ltb, le-leb}
+use borrow.Author.Tests.{leb-true, leb-false, ltb-true, eqb-true, eq-eqb, lt-ltb, le-leb}
 use lib.Dec.{eqb, ltb, leb}
 use lib.ListN.{length}
 use Rattle.word.proofs.BoolLaws.{both}
@@ -143,7 +143,7 @@ one_of false t e = inr e
 pub stands_test : {l : List ℕ} {a w : ℕ} → Stands l a w → is_line_of l a w ≡ true
 unfolding is_line_of
 stands_test {l} {a} {w} s =
-    rw (eq_eqb (a % 4) 0 s.aligned, lt-ltb a memory_size s.below)
+    rw (eq-eqb (a % 4) 0 s.aligned, lt-ltb a memory_size s.below)
     (either (equal l (text_line a w)) (leb 4 a && equal l (data_line a w))
     (⊎_elim (λ t. inl (rw t (equal_refl (text_line a w)))) (λ t. inr (rw (le-leb 4 a t.0, t.1) (equal_refl (data_line a w)))) s.line))
 

@@ -4,7 +4,7 @@ use mathlib.Core.List.{List, []}
 use mathlib.Core.Path.{◌≡◌, refl, sym, ◌∙◌, ap}
 use native.Mathlib.Nat.{zero-add, add-zero, add-suc, suc-add, le_of_suc-le-suc, not-suc-le-zero}
 use native.Mathlib.Omega.{arith}
-use borrow.Author.Tests.{eq_eqb, ne_eqb, le-leb, lt-leb}
+use borrow.Author.Tests.{eq-eqb, ne_eqb, le-leb, lt-leb}
 use lib.ListN.{length, get_or, length-append, length-drop}
 use Rattle.executable.specs.Executable.{data_start_of}
 use Rattle.text.specs.Ascii.{ascii}
@@ -44,7 +44,7 @@ module _ (file : List ℕ) where
   module _ {a : ℕ} (e : a ≡ answer_of file) (z : a ≡ 0) where
     accepted_lines : (n : ℕ) → line_of file n ≡ get_or (word_lines file (words_of file) 0) n []
     unfolding line_of listing_of
-    accepted_lines n = rw (eq_eqb (answer_of file) 0 (sym e ∙ z))
+    accepted_lines n = rw (eq-eqb (answer_of file) 0 (sym e ∙ z))
 
     pub line_within : (n : ℕ) → n < (length file - 16 + 3) / 4 → word_line file n ≡ line_of file n
     line_within n h = sym (accepted_lines n ∙ nth_within file (words_of file) 0 n (rw (words file) h) ∙ ap (word_line file) (zero-add n))

@@ -5,7 +5,7 @@ use mathlib.Core.List.{List, [], ◌∷◌, ◌++◌, append_assoc}
 use mathlib.Core.Path.{◌≡◌, refl, sym, ◌∙◌, ap}
 use native.Mathlib.Nat.{zero-add, add-zero, add-suc, suc-add}
 use native.Mathlib.Omega.{arith}
-use borrow.Author.Tests.{eqb-true, eq_eqb, ne_eqb}
+use borrow.Author.Tests.{eqb-true, eq-eqb, ne_eqb}
 use lib.Dec.{eqb}
 use lib.ListN.{length, get_or, take, drop, replicate, length-append, length-replicate, get_or-append}
 use lib.Seq.{take-append-le, take-append_seam, drop-append-add, get_or-drop, get_or_at}
@@ -127,11 +127,11 @@ module _ (op : ℕ) {x : ℕ} (p : x ≡ get_or (cell_of (form_of op)) 2 0) wher
   length-by s t e f = rw (← e, ← f) (name_length_lem op)
 
   pub name_of_two : x ≡ 32 → 2 ≡ length (form_of op).name
-  name_of_two e = length-by true _ (eq_eqb _ 32 (sym p ∙ e)) refl
+  name_of_two e = length-by true _ (eq-eqb _ 32 (sym p ∙ e)) refl
 
   module _ (n : x ≡ 32 → ⊥) {y : ℕ} (q : y ≡ get_or (cell_of (form_of op)) 3 0) where
     pub name_of_three : y ≡ 32 → 3 ≡ length (form_of op).name
-    name_of_three e = length-by false true (ne_eqb _ 32 (λ z. n (p ∙ z))) (eq_eqb _ 32 (sym q ∙ e))
+    name_of_three e = length-by false true (ne_eqb _ 32 (λ z. n (p ∙ z))) (eq-eqb _ 32 (sym q ∙ e))
 
     pub name_of_four : (y ≡ 32 → ⊥) → 4 ≡ length (form_of op).name
     name_of_four e = length-by false false (ne_eqb _ 32 (λ z. n (p ∙ z))) (ne_eqb _ 32 (λ z. e (q ∙ z)))

@@ -8,7 +8,7 @@ use native.Mathlib.Omega.{arith}
 use native.Mathlib.Decide.{dec_lt, ℕ_discrete}
 use lib.ListN.{length, get_or, set, length-set, get_or-eq_default}
 use lib.Seq.{get_or-set_same, get_or-set_other, set-get_or, set_out}
-use borrow.Author.Tests.{eqb-true, eq_eqb}
+use borrow.Author.Tests.{eqb-true, eq-eqb}
 use Rattle.memory.specs.Memory.{load_n}
 use Rattle.memory.proofs.Laws.{load_same}
 use Rattle.paging.specs.Walk.{bit, set_bit, mark}
@@ -33,7 +33,7 @@ bit_one k w e = eqb-true (w / k % 2) 1 e
 
 pub one_bit : (k w : ℕ) → w / k % 2 ≡ 1 → bit k w ≡ true
 unfolding bit
-one_bit k w e = eq_eqb (w / k % 2) 1 e
+one_bit k w e = eq-eqb (w / k % 2) 1 e
 
 -- ---- one word
 

@@ -8,7 +8,7 @@ use mathlib.Core.List.{List, [], ◌∷◌}
 use lib.ListN.{length, get_or, take, drop, set, length-set, drop_of_length-le}
 use lib.Seq.{length-take-le, get_or-take, get_or-set_same, get_or-set_other, drop-cons}
 use lib.Dec.{eqb}
-use borrow.Author.Tests.{eq_eqb, ne_eqb, eqb-true, eqb-false, le-leb, lt-leb}
+use borrow.Author.Tests.{eq-eqb, ne_eqb, eqb-true, eqb-false, le-leb, lt-leb}
 use Rattle.paging.specs.declared.Entry.{Entry}
 use Rattle.paging.specs.Buffer.{has, entry_page, entry_ok, entries_ok, buffer_ok}
 use Rattle.word.proofs.BoolLaws.{both}
@@ -81,7 +81,7 @@ module _ (n : ℕ) (es : List Entry) (z : length es ≡ 64) (few : n ≤ 64) whe
   module _ (p i : ℕ) {b : Bool} (inv : b ≡ has entry_page p (drop i (take n es))) where
     pub page_here : i < n → (get_or es i zero_entry).page ≡ p → b ≡ true
     unfolding has
-    page_here h e = inv ∙ rw (from i h, eq_eqb _ _ e)
+    page_here h e = inv ∙ rw (from i h, eq-eqb _ _ e)
 
     pub page_next : i < n → ((get_or es i zero_entry).page ≡ p → ⊥) → b ≡ has entry_page p (drop (i + 1) (take n es))
     unfolding has

@@ -4,7 +4,7 @@ use mathlib.Core.Bool.{Bool, true}
 use mathlib.Core.List.{List}
 use mathlib.Core.Path.{◌≡◌, ap}
 use native.Mathlib.Omega.{arith}
-use borrow.Author.Tests.{eq_eqb, lt-ltb, le-leb}
+use borrow.Author.Tests.{eq-eqb, lt-ltb, le-leb}
 use lib.ListN.{length, length-append, length-drop, length-replicate}
 use Rattle.word.specs.Word.{if◌then◌else◌}
 use Rattle.paging.specs.Buffer.{buffer_ok, entries_ok}
@@ -23,7 +23,7 @@ length-image size body h = rw (length-append, length-replicate) (omega arith)
 -- the fresh record passes
 registers_fresh : (size entry : ℕ) → 0 < size → size % 4096 ≡ 0 → entry % 4 ≡ 0 → registers_ok size (fresh_cpu size entry) ≡ true
 unfolding registers_ok
-registers_fresh size entry s p e = rw (e, eq_eqb (size % 8) 0 (omega arith), lt-ltb 0 size s)
+registers_fresh size entry s p e = rw (e, eq-eqb (size % 8) 0 (omega arith), lt-ltb 0 size s)
 
 pub never_refused : (file m con : List ℕ) → load_answer (length m) file ≡ Accepted → (run_of (load file m) con).answer ≡ Runs
 unfolding load run run_answer keys_ok keys_rise buffer_ok entries_ok

@@ -2,7 +2,7 @@
 use Prim.Native.Nat.{ℕ}
 use mathlib.Core.List.{List, []}
 use mathlib.Core.Path.{◌≡◌, refl, sym, ◌∙◌, ap, subst}
-use borrow.Author.Tests.{eq_eqb, ne_eqb}
+use borrow.Author.Tests.{eq-eqb, ne_eqb}
 use lib.ListN.{length}
 use Rattle.paging.specs.declared.Entry.{Entry}
 use Rattle.paging.specs.Translate.{buffered}
@@ -47,7 +47,7 @@ refused_by_lem : (l : Loaded) (con : List ℕ) {n : ℕ} → n ≡ load_number l
 refused_by_lem l con q z = rw (ne_eqb (load_number l.answer) 0 (λ e. z (q ∙ e)), q)
 
 ran_by_lem : (l : Loaded) (con : List ℕ) {n : ℕ} → n ≡ load_number l.answer → n ≡ 0 → ran_line (run_of l con) ≡ loaded_line l con
-ran_by_lem l con q z = rw (eq_eqb (load_number l.answer) 0 (sym q ∙ z))
+ran_by_lem l con q z = rw (eq-eqb (load_number l.answer) 0 (sym q ∙ z))
 
 -- the line of a record in which a run ended
 ended : (ran : Ran (List Entry)) (x : Machine) {n : ℕ} {m' con' : List ℕ} → n ≡ reported ran → view_of x m' con' ≡ ran.state

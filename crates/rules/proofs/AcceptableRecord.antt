@@ -3,7 +3,7 @@ use Prim.Native.Nat.{ℕ, ◌%◌, ◌^◌, ◌≤◌, ◌<◌}
 use mathlib.Core.Path.{◌≡◌, refl}
 use mathlib.Core.Bool.{Bool, true, false, ◌&&◌, false≢true}
 use lib.Dec.{eqb, ltb}
-use borrow.Author.Tests.{eqb-true, ltb-true, eq_eqb, lt-ltb}
+use borrow.Author.Tests.{eqb-true, ltb-true, eq-eqb, lt-ltb}
 use Rattle.rules.specs.declared.Cpu.{Cpu}
 use Rattle.rules.specs.Run.{registers_ok}
 
@@ -76,11 +76,11 @@ unfolding registers_ok
 acceptable_registers {size} c g =
     let p = g.passes in
     rw (
-      eq_eqb (c.regs.pc % 4) 0 p.pc_aligned,
-      eq_eqb (c.system.ivec % 4) 0 p.ivec_aligned,
-      eq_eqb (c.regs.sp % 8) 0 p.sp_aligned,
-      eq_eqb (c.system.usp % 8) 0 p.usp_aligned,
-      eq_eqb (c.system.ksp % 8) 0 p.ksp_aligned,
-      eq_eqb (c.space.pdir % 4096) 0 g.directory.aligned,
+      eq-eqb (c.regs.pc % 4) 0 p.pc_aligned,
+      eq-eqb (c.system.ivec % 4) 0 p.ivec_aligned,
+      eq-eqb (c.regs.sp % 8) 0 p.sp_aligned,
+      eq-eqb (c.system.usp % 8) 0 p.usp_aligned,
+      eq-eqb (c.system.ksp % 8) 0 p.ksp_aligned,
+      eq-eqb (c.space.pdir % 4096) 0 g.directory.aligned,
       lt-ltb c.space.pdir size g.directory.inside,
     )

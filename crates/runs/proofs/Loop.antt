@@ -6,7 +6,7 @@ use mathlib.Core.Path.{◌≡◌, refl, sym, ◌∙◌, ap, subst}
 use mathlib.Core.List.{List}
 use lib.ListN.{length}
 use lib.Dec.{ltb, eqb}
-use borrow.Author.Tests.{ltb-true, eqb-true, lt-ltb, eq_eqb}
+use borrow.Author.Tests.{ltb-true, eqb-true, lt-ltb, eq-eqb}
 use Rattle.word.proofs.BoolLaws.{both}
 use Rattle.mmu.specs.Good.{Good}
 use Rattle.clock.specs.Taken.{KeyFits}
@@ -83,7 +83,7 @@ module _ {c : Cpu} {left : ℕ} {k : Next} {m con l : List ℕ} (r : Ready c lef
 
     module _ (e : Tested false) where
       taken_some : 0 < n → x.clock.taken ≡ c.clock.taken → ⊥
-      taken_some p u = contra _ _ (lt-ltb _ _ p) (eq_eqb _ _ u) e
+      taken_some p u = contra _ _ (lt-ltb _ _ p) (eq-eqb _ _ u) e
         where
           contra : (a b : Bool) → a ≡ true → b ≡ true → (a && b) ≡ false → ⊥
           contra true true i j h = true≢false h

@@ -5,7 +5,7 @@ use native.Mathlib.Omega.{arith}
 use mathlib.Core.Bool.{Bool, true, false, not, ◌&&◌}
 use mathlib.Core.List.{List, [], ◌∷◌, ◌++◌, append_assoc}
 use mathlib.Core.Path.{◌≡◌, refl, sym, ◌∙◌, ap}
-use borrow.Author.Tests.{ltb-true, le-leb, eq_eqb}
+use borrow.Author.Tests.{ltb-true, le-leb, eq-eqb}
 use lib.Dec.{ltb, leb}
 use lib.ListN.{length, get_or, take, drop, replicate}
 use lib.Seq.{length-take-le, drop-drop, drop_at, take_at}
@@ -168,10 +168,10 @@ module _ (m : Machine) (mem con file : List ℕ) (fits : Fits m.cpu) (a : SaveAc
   unfolding decoded offsets_ok
   offsets_read =
       rw (
-        eq_eqb (load_n 4 saved 12) registers_at (ap (λ (l : List ℕ). get_or l 3 0) header_read),
-        eq_eqb (load_n 4 saved 16) entries_at (ap (λ (l : List ℕ). get_or l 4 0) header_read),
-        eq_eqb (load_n 4 saved 20) (console_at k) (ap (λ (l : List ℕ). get_or l 5 0) header_read),
-        eq_eqb (load_n 4 saved 24) (memory_at k) (ap (λ (l : List ℕ). get_or l 6 0) header_read),
+        eq-eqb (load_n 4 saved 12) registers_at (ap (λ (l : List ℕ). get_or l 3 0) header_read),
+        eq-eqb (load_n 4 saved 16) entries_at (ap (λ (l : List ℕ). get_or l 4 0) header_read),
+        eq-eqb (load_n 4 saved 20) (console_at k) (ap (λ (l : List ℕ). get_or l 5 0) header_read),
+        eq-eqb (load_n 4 saved 24) (memory_at k) (ap (λ (l : List ℕ). get_or l 6 0) header_read),
       )
 
   numbers_read : numbers_in saved ≡ numbers_of m.cpu
@@ -204,7 +204,7 @@ module _ (m : Machine) (mem con file : List ℕ) (fits : Fits m.cpu) (a : SaveAc
     unfolding counts_ok
     counts_judged =
         rw (
-          eq_eqb (k.pages * page_bytes) (length mem') (omega (arith, whole, same)),
+          eq-eqb (k.pages * page_bytes) (length mem') (omega (arith, whole, same)),
           le-leb m.held 64 few,
           le-leb m.cpu.written (length con') room,
         )
@@ -224,7 +224,7 @@ module _ (m : Machine) (mem con file : List ℕ) (fits : Fits m.cpu) (a : SaveAc
     answer_read =
         read_passes (ap size_ok same ∙ a.size) (le-leb header_bytes (length saved) (omega (arith, length-saved)))
         (ap (counts_ok (length mem') (length con')) counts_read ∙ counts_judged)
-        (ap (λ (x : Counts). offsets_ok saved x && length_ok (length saved) x) counts_read ∙ rw (offsets_read, eq_eqb (length saved) (length_by k) length-saved))
+        (ap (λ (x : Counts). offsets_ok saved x && length_ok (length saved) x) counts_read ∙ rw (offsets_read, eq-eqb (length saved) (length_by k) length-saved))
         (ap (record_ok (length mem') saved) counts_read ∙ record_judged)
 
     machine_read : machine_in saved k ≡ carried m

@@ -1,7 +1,7 @@
 -- c = 0 finishes (`executes_fine`); else the match tells the operation, and its function executes the tree of one byte.
 use Rattle.contracts.proofs.Laws.{executes_fine}
 use Rattle.rules.specs.Block.{block_tree}
-use borrow.Author.Tests.{ne_eqb, eq_eqb}
+use borrow.Author.Tests.{ne_eqb, eq-eqb}
 use borrow.Author.Rules.{rules}
 use Rattle.block.proofs.block.Statement.{statement}
 use Rattle.block.proofs.block.Tie as tie
@@ -10,7 +10,7 @@ returns : tie.Need-returns
 unfolding block_tree
 returns c =
     let pre = c.before.before.before.before.before.before.requires in
-    rw (eq_eqb _ _ c.before.before.if1.true) (executes_fine pre (rw (c.fine.ensures, c.before.finish.ensures)))
+    rw (eq-eqb _ _ c.before.before.if1.true) (executes_fine pre (rw (c.fine.ensures, c.before.finish.ensures)))
 
 returns-2 : tie.Need-returns-2
 unfolding block_tree

@@ -1,11 +1,11 @@
 -- The comparison of the bytes decides the definition's choice: on with both addresses, or a break.
-use borrow.Author.Tests.{ne_eqb, eq_eqb}
+use borrow.Author.Tests.{ne_eqb, eq-eqb}
 use borrow.Author.Rules.{rules}
 use Rattle.block.proofs.compared.Statement.{statement}
 use Rattle.block.proofs.compared.Tie as tie
 
 returns : tie.Need-returns
-returns c = rw (eq_eqb _ _ c.before.if1.true) c.again-both.ensures
+returns c = rw (eq-eqb _ _ c.before.if1.true) c.again-both.ensures
 
 returns-2 : tie.Need-returns-2
 returns-2 c =

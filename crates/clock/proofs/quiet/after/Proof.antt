@@ -1,12 +1,12 @@
 -- The test for a timeout of 0 decides the definition's choice; the timer, risen by the steps passed, stays a word by what is required.
 use native.Mathlib.Omega.{arith}
-use borrow.Author.Tests.{eq_eqb, ne_eqb}
+use borrow.Author.Tests.{eq-eqb, ne_eqb}
 use borrow.Author.Rules.{rules}
 use Rattle.clock.proofs.quiet.after.Statement.{statement}
 use Rattle.clock.proofs.quiet.after.Tie as tie
 
 returns : tie.Need-returns
-returns c = rw (eq_eqb _ _ c.if1.true)
+returns c = rw (eq-eqb _ _ c.if1.true)
 
 add-timer : tie.Need-overflow-add-timer
 add-timer c =

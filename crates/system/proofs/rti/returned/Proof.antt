@@ -1,5 +1,5 @@
 -- The test is the mark of value 16; sp is the sum, its low bits dropped.
-use borrow.Author.Tests.{eq_eqb, ne_eqb}
+use borrow.Author.Tests.{eq-eqb, ne_eqb}
 use borrow.Author.Rules.{rules}
 use Rattle.paging.specs.Walk.{bit}
 use Rattle.system.proofs.rti.returned.Statement.{statement}
@@ -9,7 +9,7 @@ returns : tie.Need-returns
 unfolding bit
 returns c =
     let sum = c.before.before.before.before.before.before.before.sum in
-    rw (eq_eqb _ _ c.before.before.before.if1.true, sum.ensures)
+    rw (eq-eqb _ _ c.before.before.before.if1.true, sum.ensures)
 
 returns-2 : tie.Need-returns-2
 unfolding bit
