@@ -141,6 +141,7 @@ pub enum Instr {
 }
 
 // The instruction of an opcode byte, decided for all 256 values.
+#[tactic(auto, unfolding(crate::specs::Opcodes::opcode_of, crate::specs::Opcodes::table))]
 pub fn opcode(op: u8, imm: u32, field: u32) -> Instr
     ensures { result ≡ opcode_of op imm field }
 {
