@@ -21,12 +21,12 @@ walks_append (delivered c ∷ es) fs = omega (arith, walks_append es fs)
 pub raised_append : (n : ℕ) (es fs : List Event) → raised n (es ++ fs) ≡ raised (raised n es) fs
 unfolding raised
 raised_append n [] fs = refl
-raised_append n (walked ∷ es) fs = raised_append _ es fs
-raised_append n (kept w ∷ es) fs = raised_append _ es fs
-raised_append n (emptied ∷ es) fs = raised_append _ es fs
-raised_append n (marked a ∷ es) fs = raised_append _ es fs
-raised_append n (stored a b ∷ es) fs = raised_append _ es fs
-raised_append n (delivered c ∷ es) fs = raised_append _ es fs
+raised_append n (walked ∷ es) fs = raised_append ((n + 1) % 2 ^ 64) es fs
+raised_append n (kept w ∷ es) fs = raised_append n es fs
+raised_append n (emptied ∷ es) fs = raised_append n es fs
+raised_append n (marked a ∷ es) fs = raised_append n es fs
+raised_append n (stored a b ∷ es) fs = raised_append n es fs
+raised_append n (delivered c ∷ es) fs = raised_append n es fs
 
 -- the counter has all walks, as long as they are below 2^64
 pub raised_walks : (n : ℕ) (es : List Event) → n + walks_in es < 2 ^ 64 → raised n es ≡ n + walks_in es
