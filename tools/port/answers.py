@@ -185,7 +185,8 @@ def turn(folder, info, crate, path):
     for goal, a in inline:
         t = re.match(r"^\(λ c(?: κs)?\. (.*)\)$", a, re.S)
         if t:
-            out.append(f"pub {goal} : goal.{goal}\n{goal} c = {turn_body(t[1], names, goal)}")
+            opened = "".join(l + "\n" for l in spec[0].split("\n") if l.startswith("unfolding "))
+            out.append(f"pub {goal} : goal.{goal}\n{opened}{goal} c = {turn_body(t[1], names, goal)}")
         elif re.match(r"^\(([^\s()]+)(.*)\)$", a):
             left.append(f"{goal} = {a}")
     text2 = "\n".join(head + uses + [f"use {module}.Goals as goal"]) + "\n\n" + "\n\n".join(out) + "\n"
