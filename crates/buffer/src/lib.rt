@@ -9,7 +9,7 @@ ghost use Rattle.buffer.specs.Held.{slots, frames, page_in, entry, unpack, count
 use paging::{Access, Entry};
 
 // The frame that the buffer gives for a page, or none.
-#[derive(Drop)]
+#[derive(Clone, Copy)]
 pub enum Hit {
     Frame(u32),
     Miss,

@@ -4,7 +4,7 @@ ghost use Rattle.std.specs.Prelude.{◌≤◌, ◌<◌, ◌^◌, length};
 use crate::given::{NUMBERS, SLOTS, long, place, word};
 
 // What was read of a stream.
-#[derive(Drop)]
+#[derive(Clone, Copy)]
 pub enum Judged {
     // Nothing more.
     End,

@@ -9,7 +9,7 @@ use decode::SysOp;
 use paging::{Answer, Cause, Fault};
 use rules::{Floats, Regs};
 
-#[derive(Drop)]
+#[derive(Clone, Copy)]
 pub enum End {
     Ok,
     // The fetch was denied.
@@ -26,14 +26,14 @@ pub enum End {
 }
 
 // What an instruction leaves: how it ended, and where it ended well the registers.
-#[derive(Drop)]
+#[derive(Clone, Copy)]
 pub struct Done {
     pub regs: Regs,
     pub end: End,
 }
 
 // What a floating instruction leaves, with f and g.
-#[derive(Drop)]
+#[derive(Clone, Copy)]
 pub struct FloatDone {
     pub regs: Regs,
     pub floats: Floats,

@@ -8,7 +8,7 @@ use memory::Size;
 use word::immediate;
 
 // Where the second operand comes from: register b, imm, or the word at sp + imm.
-#[derive(Drop)]
+#[derive(Clone, Copy)]
 pub enum Operand {
     RegB,
     Imm(u32),
@@ -16,7 +16,7 @@ pub enum Operand {
 }
 
 // The operations on a and a second operand.
-#[derive(Drop)]
+#[derive(Clone, Copy)]
 pub enum AluOp {
     Add,
     Sub,
@@ -34,7 +34,7 @@ pub enum AluOp {
 }
 
 // The comparisons of a with b.
-#[derive(Drop)]
+#[derive(Clone, Copy)]
 pub enum Test {
     Eq,
     Ne,
@@ -45,7 +45,7 @@ pub enum Test {
 }
 
 // The general registers.
-#[derive(Drop)]
+#[derive(Clone, Copy)]
 pub enum Reg {
     A,
     B,
@@ -53,7 +53,7 @@ pub enum Reg {
 }
 
 // The register that a load's or store's imm is added to.
-#[derive(Drop)]
+#[derive(Clone, Copy)]
 pub enum Base {
     Sp,
     Pc,
@@ -62,7 +62,7 @@ pub enum Base {
 }
 
 // What is loaded, by the source's C types.
-#[derive(Drop)]
+#[derive(Clone, Copy)]
 pub enum Format {
     Uint,
     Short,
@@ -72,7 +72,7 @@ pub enum Format {
 }
 
 // The block instructions, which do one byte a step.
-#[derive(Drop)]
+#[derive(Clone, Copy)]
 pub enum BlockOp {
     Mcpy,
     Mcmp,
@@ -81,7 +81,7 @@ pub enum BlockOp {
 }
 
 // The privileged instructions that change the record and nothing else.
-#[derive(Drop)]
+#[derive(Clone, Copy)]
 pub enum PlainOp {
     Halt,
     Cli,
@@ -98,7 +98,7 @@ pub enum PlainOp {
 }
 
 // The privileged instructions.
-#[derive(Drop)]
+#[derive(Clone, Copy)]
 pub enum SysOp {
     Plain(PlainOp),
     Rti,
@@ -108,7 +108,7 @@ pub enum SysOp {
 }
 
 // An instruction with its operand: imm with its sign; for LoadHigh and Time the unsigned field.
-#[derive(Drop)]
+#[derive(Clone, Copy)]
 pub enum Instr {
     Illegal,
     Nop,

@@ -24,7 +24,7 @@ const SIGN: u64 = 0x8000_0000_0000_0000;
 const TWO_52: u64 = 0x4330_0000_0000_0000;
 
 // A word cut from a double, if it fits one.
-#[derive(Drop)]
+#[derive(Clone, Copy)]
 pub enum Cut {
     Unfit,
     Fits(u32),

@@ -6,7 +6,7 @@ use rules::{Key, Machine};
 use runs::RunResult;
 
 // What a run gives, whichever entry made it: the record, the answer's number, the reported steps and table walks.
-#[derive(Drop)]
+#[derive(Clone, Copy)]
 pub struct Made {
     pub machine: Machine,
     pub number: u32,

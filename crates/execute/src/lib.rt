@@ -20,7 +20,7 @@ use paging::{Access, Answer, Space};
 use rules::Regs;
 
 // What is known of the word at pc without a search or a walk: that it is a floating instruction, or nothing.
-#[derive(Drop)]
+#[derive(Clone, Copy)]
 pub enum Ahead {
     Floating(u32),
     Unknown,

@@ -9,21 +9,21 @@ use decode::Base;
 use word::immediate;
 
 // The floating registers.
-#[derive(Drop)]
+#[derive(Clone, Copy)]
 pub enum FloatReg {
     F,
     G,
 }
 
 // How many digits stand in memory: the source's double and float.
-#[derive(Drop)]
+#[derive(Clone, Copy)]
 pub enum Precision {
     Double,
     Single,
 }
 
 // The operations on f and g.
-#[derive(Drop)]
+#[derive(Clone, Copy)]
 pub enum FloatOp {
     Add,
     Sub,
@@ -32,7 +32,7 @@ pub enum FloatOp {
 }
 
 // The comparisons of f with g.
-#[derive(Drop)]
+#[derive(Clone, Copy)]
 pub enum FloatTest {
     Eq,
     Ne,
@@ -41,7 +41,7 @@ pub enum FloatTest {
 }
 
 // A floating instruction with its operand: imm with its sign.
-#[derive(Drop)]
+#[derive(Clone, Copy)]
 pub enum FloatInstr {
     Unlisted,
     Load(FloatReg, Base, Precision, u32),

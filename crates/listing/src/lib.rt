@@ -11,14 +11,14 @@ ghost use Rattle.listing.specs.Stands.{HasWord, equal, is_line_of};
 const MEMORY: usize = 32768;
 
 // What the reading of a line answers.
-#[derive(Drop)]
+#[derive(Clone, Copy)]
 pub enum LineAnswer {
     Accepted,
     Unlisted,
 }
 
 // The address and word that a line came from; refused, both are 0.
-#[derive(Drop)]
+#[derive(Clone, Copy)]
 pub struct LineRead {
     pub answer: LineAnswer,
     pub address: u32,

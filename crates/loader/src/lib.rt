@@ -11,7 +11,7 @@ use paging::{Entry, Space};
 use rules::{Clock, Cpu, Floats, LastCause, Machine, Model, Pending, Regs, Stop, System};
 
 // What a load gives beside memory: its answer, and the record.
-#[derive(Drop)]
+#[derive(Clone, Copy)]
 pub struct Loaded {
     pub answer: LoadAnswer,
     pub machine: Machine,

@@ -19,7 +19,7 @@ use paging::Space;
 use rules::{Cpu, Due, Floats, Next, Regs};
 
 // A record on its way through a run, with the steps that are left.
-#[derive(Drop)]
+#[derive(Clone, Copy)]
 pub struct Advanced {
     pub cpu: Cpu,
     pub left: u64,

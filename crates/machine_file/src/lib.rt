@@ -5,7 +5,7 @@ pub mod layout;
 pub mod registers;
 
 // The counts of a saved machine: pages of memory, entries of the page buffer, console bytes written.
-#[derive(Drop)]
+#[derive(Clone, Copy)]
 pub struct Counts {
     pub pages: usize,
     pub entries: usize,

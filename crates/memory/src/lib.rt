@@ -5,7 +5,7 @@ ghost use Rattle.std.specs.Prelude.{◌≡◌, ◌+◌, ◌≤◌, length};
 ghost use Rattle.memory.specs.Memory.{load_n, store_n, bytes, size_ok};
 
 // The size of an access. The rarest stands first: of a first variant that many instructions have, compilers clear a register in every step.
-#[derive(Drop)]
+#[derive(Clone, Copy)]
 pub enum Size {
     Byte,
     Half,

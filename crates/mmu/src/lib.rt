@@ -16,7 +16,7 @@ use paging::{Access, Answer, Cause, Fault, Space};
 use walk::PageWalk;
 
 // What a probe found without a search or a walk: where an access lies, or nothing.
-#[derive(Drop)]
+#[derive(Clone, Copy)]
 pub enum Probed {
     At(usize),
     Unknown,

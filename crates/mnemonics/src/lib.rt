@@ -10,7 +10,7 @@ ghost use Rattle.mnemonics.specs.Cells.{cell_of};
 ghost use Rattle.mnemonics.specs.Line.{spaced, operand_of, fields_of, text_line, data_line};
 
 // What is printed of an instruction's upper 24 bits: nothing, the signed number, or the address that a jump or branch leads to.
-#[derive(Drop)]
+#[derive(Clone, Copy)]
 pub enum OperandForm {
     Nothing,
     Immediate,

@@ -95,7 +95,7 @@ pub fn branch(r: Regs, taken: bool, to: u32) -> Regs
 // ---- arithmetic, comparisons, conditions
 
 // What an operation gives: a value, or nothing where the divisor is 0.
-#[derive(Drop)]
+#[derive(Clone, Copy)]
 pub enum Computed {
     Value(u32),
     ZeroDivisor,

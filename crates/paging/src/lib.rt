@@ -5,7 +5,7 @@ ghost use Rattle.std.specs.Prelude.{◌≡◌};
 ghost use Rattle.paging.specs.Walk.{is_write};
 
 // What an access is for.
-#[derive(Drop)]
+#[derive(Clone, Copy)]
 pub enum Access {
     Fetch,
     Read,
@@ -24,7 +24,7 @@ pub fn writes(kind: Access) -> bool
 }
 
 // An entry of the page buffer.
-#[derive(Drop)]
+#[derive(Clone, Copy)]
 pub struct Entry {
     pub page: u32,
     pub frame: u32,
@@ -33,14 +33,14 @@ pub struct Entry {
 }
 
 // How addresses are found: the page directory, and whether paging is on.
-#[derive(Drop)]
+#[derive(Clone, Copy)]
 pub struct Space {
     pub pdir: u32,
     pub paging: bool,
 }
 
 // Why translation denies an access: document 02, item 4, in its order, which is that of checking.
-#[derive(Drop)]
+#[derive(Clone, Copy)]
 pub enum Cause {
     AddressBeyondMemory,
     // The directory word has no P.
@@ -55,7 +55,7 @@ pub enum Cause {
 
 // A fault of an access: its trap code, its cause, and the address asked. Trap codes take sixteen bits and stand first: a fault is eight bytes
 // then, and instructions' ends stay in machine registers.
-#[derive(Drop)]
+#[derive(Clone, Copy)]
 pub struct Fault {
     pub code: u16,
     pub cause: Cause,
@@ -63,7 +63,7 @@ pub struct Fault {
 }
 
 // What translation answers: a physical address, or a fault.
-#[derive(Drop)]
+#[derive(Clone, Copy)]
 pub enum Answer {
     At(usize),
     Denied(Fault),

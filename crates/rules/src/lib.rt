@@ -9,7 +9,7 @@ ghost use Rattle.rules.specs.Run.{run_number, is_accepted};
 use paging::{Cause, Entry, Space};
 
 // What ordinary instructions change, and the step count.
-#[derive(Drop)]
+#[derive(Clone, Copy)]
 pub struct Regs {
     pub a: u32,
     pub b: u32,
@@ -20,14 +20,14 @@ pub struct Regs {
 }
 
 // Which interrupts are pending: document 02's marks of a key event and of a timer event.
-#[derive(Drop)]
+#[derive(Clone, Copy)]
 pub struct Pending {
     pub key: bool,
     pub timer: bool,
 }
 
 // What the clock changes: the timer, the last key's character, the keys taken (document 01's term: how many of the list), and the pending interrupts.
-#[derive(Drop)]
+#[derive(Clone, Copy)]
 pub struct Clock {
     pub timer: u32,
     pub timeout: u32,
@@ -37,7 +37,7 @@ pub struct Clock {
 }
 
 // What traps and privileged instructions change.
-#[derive(Drop)]
+#[derive(Clone, Copy)]
 pub struct System {
     pub usp: u32,
     pub ksp: u32,
@@ -48,7 +48,7 @@ pub struct System {
 }
 
 // Why the machine stopped.
-#[derive(Drop)]
+#[derive(Clone, Copy)]
 pub enum Stop {
     Running,
     Halted,
@@ -59,27 +59,27 @@ pub enum Stop {
 }
 
 // The cause of the latest fault: none at first.
-#[derive(Drop)]
+#[derive(Clone, Copy)]
 pub enum LastCause {
     None,
     Of(Cause),
 }
 
 // The floating registers, as 64-bit patterns.
-#[derive(Drop)]
+#[derive(Clone, Copy)]
 pub struct Floats {
     pub f: u64,
     pub g: u64,
 }
 
 // What no instruction changes: document 02's mode of the machine, in which the floating instructions are legal.
-#[derive(Drop)]
+#[derive(Clone, Copy)]
 pub struct Model {
     pub doubles: bool,
 }
 
 // The record without the page buffer. `vadr` is the faulting address, with `cause`, which, as `model`, takes no room where it stands; `written` is the count of console bytes.
-#[derive(Drop)]
+#[derive(Clone, Copy)]
 pub struct Cpu {
     pub regs: Regs,
     pub clock: Clock,
@@ -94,7 +94,7 @@ pub struct Cpu {
 }
 
 // The record: the page buffer's counted entries stand first among its slots; later slots mean nothing.
-#[derive(Drop)]
+#[derive(Clone, Copy)]
 pub struct Machine {
     pub cpu: Cpu,
     pub entries: [Entry; 64],
@@ -102,14 +102,14 @@ pub struct Machine {
 }
 
 // A key: the step number at which it comes, and its byte.
-#[derive(Drop)]
+#[derive(Clone, Copy)]
 pub struct Key {
     pub step: u64,
     pub byte: u8,
 }
 
 // The next key of a list, if there is one.
-#[derive(Drop)]
+#[derive(Clone, Copy)]
 pub struct Next {
     pub some: bool,
     pub step: u64,
@@ -117,21 +117,21 @@ pub struct Next {
 }
 
 // An interrupt, by what raises it.
-#[derive(Drop)]
+#[derive(Clone, Copy)]
 pub enum Interrupt {
     Keyboard,
     Timer,
 }
 
 // What is due in a step.
-#[derive(Drop)]
+#[derive(Clone, Copy)]
 pub enum Due {
     Nothing,
     Now(Interrupt),
 }
 
 // What a run answers.
-#[derive(Drop)]
+#[derive(Clone, Copy)]
 pub enum RunAnswer {
     Accepted,
     BadSize,

@@ -12,7 +12,7 @@ use machine::Advanced;
 use rules::{Cpu, Machine, Next, RunAnswer, Stop};
 
 // What a run gives: the record, its answer, the reported steps, and its table walks (document 02, item 6).
-#[derive(Drop)]
+#[derive(Clone, Copy)]
 pub struct RunResult {
     pub machine: Machine,
     pub answer: RunAnswer,
@@ -21,7 +21,7 @@ pub struct RunResult {
 }
 
 // A run under way: the keys taken, the steps that are left, 0 once the machine has stopped, and its result so far.
-#[derive(Drop)]
+#[derive(Clone, Copy)]
 pub struct UnderWay {
     pub taken: usize,
     pub left: u64,

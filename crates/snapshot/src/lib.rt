@@ -17,7 +17,7 @@ use machine_file::registers::{machine_at, put_registers, record_ok};
 use rules::Machine;
 
 // What saving answers.
-#[derive(Drop)]
+#[derive(Clone, Copy)]
 pub enum SaveAnswer {
     Accepted,
     BadSize,
@@ -31,7 +31,7 @@ pub enum SaveAnswer {
 }
 
 // What reading answers.
-#[derive(Drop)]
+#[derive(Clone, Copy)]
 pub enum ReadAnswer {
     Accepted,
     BadSize,
@@ -44,14 +44,14 @@ pub enum ReadAnswer {
 }
 
 // What saving gives beside the file: its answer, and the file's length, 0 when refused.
-#[derive(Drop)]
+#[derive(Clone, Copy)]
 pub struct Saved {
     pub answer: SaveAnswer,
     pub length: usize,
 }
 
 // What reading gives beside memory and console: its answer, and the record.
-#[derive(Drop)]
+#[derive(Clone, Copy)]
 pub struct Restored {
     pub answer: ReadAnswer,
     pub machine: Machine,

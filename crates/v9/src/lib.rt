@@ -42,7 +42,7 @@ pub fn run(m: Machine, mem: &mut [u8], console: &mut [u8], keys: &[Key], budget:
 }
 
 // What a run gives its caller to keep: the record, and the answer's number.
-#[derive(Drop)]
+#[derive(Clone, Copy)]
 pub struct Numbered {
     pub machine: Machine,
     pub number: u32,

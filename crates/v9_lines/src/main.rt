@@ -7,7 +7,7 @@ ghost use Rattle.std.specs.Prelude.{◌≤◌, min, ◌≡◌, length};
 mod constants;
 
 // What was read of a file: whether all of it was there, and how many of its bytes are kept.
-#[derive(Drop)]
+#[derive(Clone, Copy)]
 struct Given {
     whole: bool,
     kept: usize,

@@ -10,7 +10,7 @@ ghost use Rattle.walk.specs.Found.{is_mark, walk_result, walked_by, FrameWalk, T
 use paging::{Access, Cause};
 
 // What a page table walk finds.
-#[derive(Drop)]
+#[derive(Clone, Copy)]
 pub enum PageWalk {
     // The frame's number, with the user and the write right.
     Mapped { frame: u32, user: bool, write: bool },
