@@ -102,7 +102,10 @@ def turn_path(m, steps):
 def turn_body(body, names, goal):
     body = inline_lets(body)
     steps = names.steps(goal)
-    return re.sub(r"(?<![^\s(){},;])c(?:\.[^\s(){},;.]+)+", lambda m: turn_path(m, steps), body)
+    body = re.sub(r"(?<![^\s(){},;])c(?:\.[^\s(){},;.]+)+", lambda m: turn_path(m, steps), body)
+    # a test `!x` says by itself that x is false, or true
+    body = re.sub(r"\(not-(true|false) _ (c\.if-not-[^\s()]+\.\1)\)", r"\2", body)
+    return re.sub(r"not-(true|false) _ (c\.if-not-[^\s(),]+\.\1)", r"\2", body)
 
 
 def loop_names(info):
