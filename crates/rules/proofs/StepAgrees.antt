@@ -5,6 +5,7 @@ use mathlib.Core.Path.{◌≡◌}
 use mathlib.Core.Bool.{false}
 use mathlib.Core.List.{List, [], ◌∷◌, ◌++◌}
 use lib.ListN.{length}
+use Rattle.memory.specs.Memory.{store_n}
 use Rattle.paging.specs.declared.Entry.{Entry}
 use Rattle.paging.specs.declared.Space.{Space}
 use Rattle.paging.specs.Event.{Words}
@@ -41,9 +42,9 @@ coherent_stores : {m : List ℕ} {pdir : ℕ} {es : List Entry} {hs : List Words
 unfolding store_all store_events held_after stores_held
 coherent_stores [] vs t c = c
 coherent_stores (g ∷ gs) [] t c = c
-coherent_stores {hs = hs} (g ∷ gs) (v ∷ vs) t c =
+coherent_stores {m = m} {pdir = pdir} {es = es} {hs = hs} (g ∷ gs) (v ∷ vs) t c =
     let n = neither (touches_held g.at g.size hs) (stores_held hs (store_events gs vs)) t in
-    coherent_stores gs vs n.1 (coherent_stored g.size g.at v n.0 c)
+    coherent_stores {m = store_n g.size m g.at v} gs vs n.1 (coherent_stored g.size g.at v n.0 c)
 
 -- its effect: PDIR and SPAG empty the buffer
 coherent_effect : {m : List ℕ} {es : List Entry} {hs : List Words} (s : Space) (e : Effect) → Coherent m s.pdir es hs

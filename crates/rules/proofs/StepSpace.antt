@@ -11,8 +11,8 @@ use Rattle.rules.specs.declared.Pending.{Pending}
 use Rattle.rules.specs.Tree.{Reply, got, denied}
 use Rattle.rules.specs.Trap.{Final, framed, deliver_tree}
 use Rattle.rules.specs.System.{directed}
-use Rattle.rules.specs.Clock.{due_of, ticked}
-use Rattle.rules.specs.Step.{interrupt_tree, step_tree, space_after}
+use Rattle.rules.specs.Clock.{cleared, due_of, interrupt_code, ticked}
+use Rattle.rules.specs.Step.{awake, interrupt_tree, step_tree, space_after}
 use Rattle.rules.proofs.Leaves.{Leaves, at_leaf, at_ask, leaves_all}
 use Rattle.rules.proofs.StepTree.{Shapes, every_step}
 
@@ -29,7 +29,7 @@ module _ (s : Space) (h : s.pdir % 4 ≡ 0) where
 
   interrupt_aligned : (i : Interrupt) (c : Cpu) → Leaves (DirectoryAligned s) (interrupt_tree i c)
   unfolding deliver_tree space_after
-  interrupt_aligned i c = at_ask (frame_aligned _ _ _ _)
+  interrupt_aligned i c = at_ask (frame_aligned (awake c) (cleared i c.clock.pending) (interrupt_code i) c.regs.pc)
 
   -- PDIR: "low twelve bits drop"
   pdir_aligned : (c : Cpu) → Leaves (DirectoryAligned s) (directed c)
