@@ -56,7 +56,8 @@ class Names:
         self.places = {}
         for i, (name, parent, (old, new), fn, more) in enumerate(info["places"]):
             arm = info["arms"][i] if i < len(info["arms"]) else None
-            self.places[name] = (parent, old, new, arm)
+            told = info["clauses"][i] if i < len(info["clauses"]) else None
+            self.places[name] = (parent, old, new, arm, told)
         self.asked = {}
         for (old, new), (op, np) in zip(info["needs"], info["asked_at"]):
             self.asked[new] = op
@@ -65,9 +66,9 @@ class Names:
         """old step -> (new step, arm) on the way to the goal."""
         out, at = {}, self.asked.get(goal)
         while at is not None and at in self.places:
-            parent, old, new, arm = self.places[at]
+            parent, old, new, arm, told = self.places[at]
             if old:
-                out.setdefault(norm(old), (new, arm))
+                out.setdefault(norm(old), (new, arm, told))
             at = parent
         return out
 
@@ -88,7 +89,13 @@ def turn_path(m, steps):
     parts = m[0].split(".")
     head, parts = parts[0], [p for p in parts[1:] if p != "before"]
     if parts and norm(parts[0]) in steps:
-        new, arm = steps[norm(parts[0])]
+        new, arm, told = steps[norm(parts[0])]
+        if told and parts[1:2] == ["ensures"] and not arm:
+            fields = told["fields"]
+            if len(fields) == 1 and parts[2:3] != fields:
+                parts[2:2] = fields
+            elif len(parts) > 2 and parts[2].isdigit() and int(parts[2]) < len(fields):
+                parts[2] = fields[int(parts[2])]
         if arm:
             step, _, fields = arm
             for field, old, path in sorted(fields, key=lambda f: -len(f[2])):
@@ -193,40 +200,63 @@ def turn(folder, info, crate, path):
         elif re.match(r"^\(([^\s()]+)(.*)\)$", a):
             left.append(f"{goal} = {a}")
     text2 = "\n".join(head + uses + [f"use {module}.Goals as goal"]) + "\n\n" + "\n\n".join(out) + "\n"
-    used = "\n\n".join(out)
-    kept = []
-    for u in uses:
-        mm = re.match(r"^use (\S+?)\.\{(.*)\}$", u)
-        if mm:
+    def trimmed(used):
+        kept = []
+        for u in uses:
+            mm = re.match(r"^use (\S+?)\.\{(.*)\}$", u)
+            if not mm:
+                kept.append(u)
+                continue
             items = [i.strip() for i in mm[2].split(",")]
             kept_items = []
             for i in items:
-                nm = i.split(" as ")[-1]
-                bits = [b for b in nm.split("◌") if b]
-                if all(re.search(rf"(?<![^\s(){{}},;.@]){re.escape(b)}(?![^\s(){{}},;.])", used) for b in bits):
+                bits = [b for b in i.split(" as ")[-1].split("◌") if b]
+                if all(re.search(rf"(?<![^\s(){{}},;.@\[\]]){re.escape(b)}(?![^\s(){{}},;.\[\]])", used) for b in bits):
                     kept_items.append(i)
             if kept_items:
                 kept.append(f"use {mm[1]}.{{{', '.join(kept_items)}}}")
-        else:
-            kept.append(u)
-    text2 = "\n".join(head + kept + [f"use {module}.Goals as goal"]) + "\n\n" + "\n\n".join(out) + "\n"
+        return kept
+
+    text2 = "\n".join(head + trimmed("\n\n".join(out)) + [f"use {module}.Goals as goal"]) + "\n\n" + "\n\n".join(out) + "\n"
     os.rename(os.path.join(folder, "Proof.antt"), os.path.join(folder, "Proof.antt.old"))
     if out:
         with open(os.path.join(folder, "Answers.antt"), "w") as f:
             f.write(text2)
     if invariants:
         with open(os.path.join(folder, "Invariants.antt"), "w") as f:
-            f.write("\n".join([h for h in head] + [u for u in uses] + [f"use {module}.Given as goal"]) + "\n\n" + turn_invariants(invariants, info) + "\n")
+            turned = turn_invariants(invariants, info)
+            f.write("\n".join(trimmed(turned) + [f"use {module}.Given as goal"]) + "\n\n" + turned + "\n")
     for l in left:
         print(f"left: {crate}/{path}: {l}")
     return None
 
 
 def turn_invariants(invariants, info):
+    """An invariant over the loop's variables by position, the first values and then those that change, as one over `l`."""
     out = []
-    loops = info.get("loops") or []
+    names = [old for (old, new), _ in info["loops"]]
     for p in invariants:
-        out.append("-- LOOPS " + json.dumps(loops, ensure_ascii=False)[:600] + "\n" + p.replace("tie.", "goal."))
+        lines = p.split("\n")
+        sig = next(i for i, l in enumerate(lines) if " : tie." in l)
+        kind, loop = re.match(r".* : tie\.(invariant|decreases)-(\S+)", lines[sig]).groups()
+        at = next((i for i, old in enumerate(names) if norm(old) == norm(loop)), None)
+        if at is None:
+            out.append("-- LEFT\n" + p)
+            continue
+        new, variables, changed = info["loops"][at][0][1], info["loops"][at][1], info["changed"][at]
+        body = "\n".join(lines[sig + 1 :])
+        opened = "".join(l + "\n" for l in lines[sig + 1 :] if l.startswith("unfolding "))
+        m = re.search(r"^\S+((?: [^\s=]+)*) =\s", body, re.M)
+        given, text = m[1].split(), body[m.end() :]
+        table = {}
+        for k, v in enumerate(variables):
+            if k < len(given):
+                table[given[k]] = f"l.{'initial.' if changed[k] else ''}{v}"
+        for k, v in zip(range(len(variables), len(given)), [v for v, c in zip(variables, changed) if c]):
+            table[given[k]] = f"l.{v}"
+        table.pop("_", None)
+        text = re.sub(r"(?<![^\s(){},;@])[^\s(){},;.]+", lambda w: table.get(w[0], w[0]), text)
+        out.append("\n".join(lines[:sig] + [f"abbrev pub {kind}-{new} : goal.{kind}-{new}", f"{opened}{kind}-{new} l = {text.strip()}"]))
     return "\n\n".join(out)
 
 
