@@ -1,0 +1,8 @@
+-- Each field is the definition's, with the test of a bit opened.
+use Rattle.std.proofs.Common.{refl}
+use Rattle.paging.specs.Walk.{bit}
+use Rattle.buffer.proofs.unpack.Goals as goal
+
+pub returns : goal.returns
+unfolding bit
+returns c = refl
