@@ -13,6 +13,11 @@ import shutil
 import subprocess
 import sys
 
+sys.path.insert(0, os.path.dirname(os.path.abspath(__file__)))
+sys.dont_write_bytecode = True
+
+import respell
+
 
 def edits(root):
     for top in ("crates", "must-fail-more"):
@@ -34,9 +39,9 @@ def parse(text):
         if line.startswith("file:"):
             file = line[5:].strip()
         elif line.startswith("old:"):
-            old = line[4:].strip()
+            old = line[5:]
         elif line.startswith("new:"):
-            pairs.append((file, old, line[4:].strip()))
+            pairs.append((file, old, line[5:]))
         else:
             head.append(line)
     return head, pairs
@@ -72,67 +77,71 @@ def lay(old, work):
         subprocess.run(c, cwd=work, check=True)
 
 
-def shortest(old, new, text):
-    """old and new, which differ, cut at both ends to whole words while old stands once in text."""
-    a = 0
-    while a < min(len(old), len(new)) and old[a] == new[a]:
-        a += 1
-    b = 0
-    while b < min(len(old), len(new)) - a and old[-1 - b] == new[-1 - b]:
-        b += 1
-    spaces = [i for i, c in enumerate(old) if c == " "]
-    lefts = [i + 1 for i in spaces if i + 1 <= a][::-1] + [0]
-    rights = [i for i in spaces if i >= len(old) - b] + [len(old)]
-    best = (old, new)
-    for l in lefts:
-        for r in rights:
-            piece = old[l:r]
-            if piece.strip() == piece and piece and text.count(piece) == 1:
-                cut = new[l : len(new) - (len(old) - r)]
-                if cut.strip() == cut and cut and (len(piece) < len(best[0]) or best == (old, new)):
-                    best = (piece, cut)
-    return best
+def respelled(text, rows, file):
+    """The part of a line, by the table of names and by what the kit's script does to a part of a line."""
+    if file.endswith(".rt"):
+        parts = re.split(r'("(?:[^"\\]|\\.)*")', text)
+        for i in range(0, len(parts), 2):
+            parts[i] = re.sub(r"(?<![\w'])[a-z][a-z0-9]*[A-Z][A-Za-z0-9]*'*(?![\w])", lambda w: rows.get(w[0], w[0]), parts[i])
+        return "".join(parts)
+    text = re.sub(r"(?<=[\w)]) \.(?=[a-z0-9])", ".", text.replace("\u2032", "'"))
+    text = re.sub(r"\(([^\s()]+\.[\w.-]+)\)", r"\1", text)
+    text = respell.turn_code(text, rows, False)
+    return re.sub(r"\bgetD\b", "get_or", text)
+
+
+def lines_of(base, with_edit):
+    """The lines that differ, each with what it becomes, or None where lines were added or taken."""
+    if len(base) != len(with_edit):
+        return None
+    return [(x.strip(), y.strip()) for x, y in zip(base, with_edit) if x != y]
+
+
+def squeezed(text):
+    return re.sub(r"\s+|,(?=\s*[)}])", "", text)
 
 
 def take(old, work, to):
-    same, changed = 0, 0
+    rows = respell.read_table()
+    same = changed = by_line = 0
     for k, path in enumerate(edits(old)):
         head, pairs = parse(open(os.path.join(old, path)).read())
         crate = crate_of(path)
-        texts = {}
-        fits = True
-        for file, o, n in pairs:
-            at = os.path.join(to, "crates", crate, file)
-            text = texts.get(file) or open(at).read()
-            # the parts of the edit itself, where neither was respelled
-            fits = fits and text.count(o) == 1
-            texts[file] = text.replace(o, n)
         turned = {}
         for file in dict.fromkeys(p[0] for p in pairs):
-            base = open(os.path.join(work, "crates", crate, file)).read().splitlines()
-            with_edit = open(os.path.join(work, "crates", crate, copy_name(file, k))).read().splitlines()
-            turned[file] = (base, with_edit)
-        if fits and all(texts[f].splitlines() == turned[f][1] for f in turned):
+            at = os.path.join(work, "crates", crate, copy_name(file, k))
+            turned[file] = (open(os.path.join(work, "crates", crate, file)).read(), open(at).read() if os.path.exists(at) else None)
+        texts, out, fits, last = {f: t[0] for f, t in turned.items()}, list(head), True, None
+        for file, o, n in pairs:
+            o2, n2 = respelled(o, rows, file), respelled(n, rows, file)
+            fits = fits and texts[file].count(o2) == 1
+            texts[file] = texts[file].replace(o2, n2)
+            out += ([] if file == last else [f"file: {file}"]) + [f"old: {o2}", f"new: {n2}"]
+            last = file
+        fits = fits and all(t[1] is None or squeezed(texts[f]) == squeezed(t[1]) for f, t in turned.items())
+        if not fits:
+            by_line += 1
+            out = list(head)
+            for file, (base, with_edit) in turned.items():
+                rows_of = lines_of(base.splitlines(), (with_edit or "").splitlines())
+                if rows_of is None:
+                    print(f"by hand: {path}: lines were added or taken in {file}")
+                    rows_of = []
+                out.append(f"file: {file}")
+                for o, n in rows_of:
+                    if base.count(o) != 1:
+                        print(f"by hand: {path}: stands {base.count(o)} times in {file}: {o}")
+                    out += [f"old: {o}", f"new: {n}"]
+        new_text = "\n".join(out) + "\n"
+        at = os.path.join(to, path)
+        if open(at).read() == new_text:
             same += 1
             continue
-        out = list(head)
-        for file, (base, with_edit) in turned.items():
-            out.append(f"file: {file}")
-            if len(base) != len(with_edit):
-                print(f"{path}: lines {len(base)} and {len(with_edit)} in {file}")
-                continue
-            text = "\n".join(base)
-            for x, y in zip(base, with_edit):
-                if x != y:
-                    o, n = shortest(x.strip(), y.strip(), text)
-                    if text.count(o) != 1:
-                        print(f"{path}: stands {text.count(o)} times in {file}: {o}")
-                    out += [f"old: {o}", f"new: {n}"]
-                    text = text.replace(o, n)
-        with open(os.path.join(to, path), "w") as f:
-            f.write("\n".join(out) + "\n")
         changed += 1
-    print(f"edits: {same} as they were, {changed} turned")
+        if fits or not any("by hand" in l for l in out):
+            with open(at, "w") as f:
+                f.write(new_text)
+    print(f"edits: {same} as they were, {changed} turned, of these {by_line} by whole lines")
 
 
 if __name__ == "__main__":
