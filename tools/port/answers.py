@@ -111,8 +111,10 @@ def turn_body(body, names, goal):
     steps = names.steps(goal)
     body = re.sub(r"(?<![^\s(){},;])c(?:\.[^\s(){},;.]+)+", lambda m: turn_path(m, steps), body)
     # a test `!x` says by itself that x is false, or true
-    body = re.sub(r"\(not-(true|false) _ (c\.if-not-[^\s()]+\.\1)\)", r"\2", body)
-    return re.sub(r"not-(true|false) _ (c\.if-not-[^\s(),]+\.\1)", r"\2", body)
+    body = re.sub(r"\(not-(true|false) _ (c\.if-not-[^\s()]+\.\1)\)", r"\2:", body)
+    body = re.sub(r"not-(true|false) _ (c\.if-not-[^\s(),]+\.\1)", r"\2:", body)
+    body = re.sub(r"(?<![^\s(){},;])(c\.if-not-[^\s(),:]+\.(?:true|false))(?![:\w-])", r"(ap not \1)", body)
+    return re.sub(r"(c\.if-not-[^\s(),:]+\.(?:true|false)):", r"\1", body)
 
 
 def loop_names(info):
@@ -217,6 +219,8 @@ def turn(folder, info, crate, path):
                 kept.append(f"use {mm[1]}.{{{', '.join(kept_items)}}}")
         return kept
 
+    if any("(ap not c.if-not-" in o for o in out):
+        uses.append("use Rattle.std.proofs.Common.{ap, not}")
     text2 = "\n".join(head + trimmed("\n\n".join(out)) + [f"use {module}.Goals as goal"]) + "\n\n" + "\n\n".join(out) + "\n"
     os.rename(os.path.join(folder, "Proof.antt"), os.path.join(folder, "Proof.antt.old"))
     if out:
