@@ -110,11 +110,27 @@ def turn_body(body, names, goal):
     body = inline_lets(body)
     steps = names.steps(goal)
     body = re.sub(r"(?<![^\s(){},;])c(?:\.[^\s(){},;.]+)+", lambda m: turn_path(m, steps), body)
-    # a test `!x` says by itself that x is false, or true
-    body = re.sub(r"\(not-(true|false) _ (c\.if-not-[^\s()]+\.\1)\)", r"\2:", body)
-    body = re.sub(r"not-(true|false) _ (c\.if-not-[^\s(),]+\.\1)", r"\2:", body)
-    body = re.sub(r"(?<![^\s(){},;])(c\.if-not-[^\s(),:]+\.(?:true|false))(?![:\w-])", r"(ap not \1)", body)
+    # a test `!x` of a local says by itself that x is false, or true; one of a field says it of `not x`
+    body = re.sub(r"\(not-(true|false) _ (c\.if-not-([^\s()]+?)\.\1)\)", lambda m: m[2] + ":" if m[3] in names.locals else m[0], body)
+    body = re.sub(r"not-(true|false) _ (c\.if-not-([^\s(),]+?)\.\1)", lambda m: m[2] + ":" if m[3] in names.locals else m[0], body)
+    body = re.sub(
+        r"(?<!not-true _ )(?<!not-false _ )(?<![^\s(){},;])(c\.if-not-([^\s(),:]+?)\.(?:true|false))(?![:\w-])",
+        lambda m: f"(ap not {m[1]})" if m[2] in names.locals else m[0],
+        body,
+    )
     return re.sub(r"(c\.if-not-[^\s(),:]+\.(?:true|false)):", r"\1", body)
+
+
+def negated_locals(crate, path):
+    """The locals x that the function tests as `!x`."""
+    name = path.split("/")[-1]
+    for folder, _, files in os.walk(os.path.join("crates", crate, "src")):
+        for f in files:
+            text = open(os.path.join(folder, f)).read()
+            m = re.search(rf"^ *(?:pub )?fn {re.escape(name)}\b.*?^}}", text, re.S | re.M)
+            if m:
+                return set(re.findall(r"!([a-z_]\w*)(?![\w.(])", m[0]))
+    return set()
 
 
 def loop_names(info):
@@ -127,6 +143,7 @@ def turn(folder, info, crate, path):
     if not tie:
         return "no tie"
     names = Names(info)
+    names.locals = negated_locals(crate, path)
     module = tie[1]
     uses, parts, head = [], [], []
     for b in blocks(text):
