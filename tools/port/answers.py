@@ -85,9 +85,11 @@ def inline_lets(body):
         body = body[: m.start()] + rest
 
 
-def turn_path(m, steps):
+def turn_path(m, steps, pre):
     parts = m[0].split(".")
     head, parts = parts[0], [p for p in parts[1:] if p != "before"]
+    if pre and parts[:1] == ["requires"] and len(parts) > 1 and parts[1].isdigit() and int(parts[1]) < len(pre["fields"]):
+        parts[1] = pre["fields"][int(parts[1])]
     if parts and norm(parts[0]) in steps:
         new, arm, told = steps[norm(parts[0])]
         if told and parts[1:2] == ["ensures"] and not arm:
@@ -109,7 +111,7 @@ def turn_path(m, steps):
 def turn_body(body, names, goal):
     body = inline_lets(body)
     steps = names.steps(goal)
-    body = re.sub(r"(?<![^\s(){},;])c(?:\.[^\s(){},;.]+)+", lambda m: turn_path(m, steps), body)
+    body = re.sub(r"(?<![^\s(){},;])c(?:\.[^\s(){},;.]+)+", lambda m: turn_path(m, steps, names.info.get("pre")), body)
     # a test `!x` of a local says by itself that x is false, or true; one of a field says it of `not x`
     body = re.sub(r"\(not-(true|false) _ (c\.if-not-([^\s()]+?)\.\1)\)", lambda m: m[2] + ":" if m[3] in names.locals else m[0], body)
     body = re.sub(r"not-(true|false) _ (c\.if-not-([^\s(),]+?)\.\1)", lambda m: m[2] + ":" if m[3] in names.locals else m[0], body)
