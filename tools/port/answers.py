@@ -57,7 +57,7 @@ class Names:
         for i, (name, parent, (old, new), fn, more) in enumerate(info["places"]):
             arm = info["arms"][i] if i < len(info["arms"]) else None
             told = info["clauses"][i] if i < len(info["clauses"]) else None
-            self.places[name] = (parent, old, new, arm, told)
+            self.places[name] = (parent, old, new, arm, told, fn)
         self.asked = {}
         for (old, new), (op, np) in zip(info["needs"], info["asked_at"]):
             self.asked[new] = op
@@ -66,9 +66,9 @@ class Names:
         """old step -> (new step, arm) on the way to the goal."""
         out, at = {}, self.asked.get(goal)
         while at is not None and at in self.places:
-            parent, old, new, arm, told = self.places[at]
+            parent, old, new, arm, told, fn = self.places[at]
             if old:
-                out.setdefault(norm(old), (new, arm, told))
+                out.setdefault(norm(old), (new, arm, told, fn))
             at = parent
         return out
 
@@ -91,7 +91,7 @@ def turn_path(m, steps, pre):
     if pre and parts[:1] == ["requires"] and len(parts) > 1 and parts[1].isdigit() and int(parts[1]) < len(pre["fields"]):
         parts[1] = pre["fields"][int(parts[1])]
     if parts and norm(parts[0]) in steps:
-        new, arm, told = steps[norm(parts[0])]
+        new, arm, told, fn = steps[norm(parts[0])]
         if told and parts[1:2] == ["ensures"] and not arm:
             fields = told["fields"]
             if len(fields) == 1 and parts[2:3] != fields:
@@ -104,8 +104,30 @@ def turn_path(m, steps, pre):
                 path = [p for p in path]
                 if norm(old) == norm(parts[0]) and [norm(p) for p in parts[1 : 1 + len(path)]] == [norm(p) for p in path]:
                     return ".".join([head, step, field] + parts[1 + len(path) :])
+        if parts[1:2] == ["auto"] and len(parts) > 2 and parts[2].isdigit() and fn:
+            changed = mutable_parameters(fn)
+            if int(parts[2]) < len(changed):
+                parts[2] = changed[int(parts[2])]
         parts[0] = new
     return ".".join([head] + parts)
+
+
+SIGNATURES = {}
+
+
+def mutable_parameters(fn):
+    """The names of a function's `&mut` parameters, as in crate::module::name."""
+    if not SIGNATURES:
+        for folder, _, files in os.walk("crates"):
+            if "/src" not in folder:
+                continue
+            for f in files:
+                if f.endswith(".rt"):
+                    text = open(os.path.join(folder, f)).read()
+                    for m in re.finditer(r"fn (\w+)\s*\(([^)]*)\)", text):
+                        crate = folder.split("/")[1]
+                        SIGNATURES.setdefault((crate, m[1]), re.findall(r"(\w+): &mut", m[2]))
+    return SIGNATURES.get((fn.split("::")[0], fn.split("::")[-1]), [])
 
 
 def turn_body(body, names, goal):
