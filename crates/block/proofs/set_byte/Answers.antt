@@ -1,0 +1,20 @@
+-- The write at a is denied (`executes_denied`), or lies in memory (`at_within`) and is the leaf's (`executes_written`), with the registers moved on.
+use Rattle.contracts.proofs.Laws.{executes_denied, executes_written}
+use Rattle.rules.specs.Block.{byte_tree}
+use Rattle.mmu.proofs.Laws.{at_within}
+use Rattle.memory.specs.declared.Size.TheVariants.{Byte}
+use Rattle.block.proofs.set_byte.Goals as goal
+
+pub returns-in_default : goal.returns-in_default
+unfolding byte_tree
+returns-in_default c =
+    executes_denied c.translate-p.ensures c.in_default.is c.refused.ensures
+
+pub store-requires : goal.store-requires
+store-requires c =
+    at_within Byte c.requires c.translate-p.ensures c.in-At.is
+
+pub returns : goal.returns
+unfolding byte_tree
+returns c =
+    executes_written c.translate-p.ensures c.in-At.is (rw (c.fine.ensures, c.again.ensures)) c.store.ensures
