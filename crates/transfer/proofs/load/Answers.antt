@@ -1,0 +1,23 @@
+-- A denied read refuses the instruction (`executes_denied`); an answered one lies in memory (`at_within`), and the tree goes on with what is read there
+-- (`executes_read`), to a leaf with the register set and nothing stored (`executes_fine`).
+use mathlib.Core.Path.{refl}
+use Rattle.contracts.proofs.Laws.{executes_denied, executes_read, executes_fine}
+use Rattle.rules.specs.Transfer.{load_tree}
+use Rattle.mmu.proofs.Laws.{at_within}
+use Rattle.transfer.proofs.load.Goals as goal
+
+pub returns-in_default : goal.returns-in_default
+unfolding load_tree
+returns-in_default c =
+    rw (← c.size-s.ensures, ← c.base.ensures, ← c.sum-va.ensures) (executes_denied c.translate-p.ensures c.in_default.is c.refused.ensures)
+
+pub value-v-requires : goal.value-v-requires
+value-v-requires c =
+    rw (← c.size-s.ensures) (at_within c.size-s.result c.requires c.translate-p.ensures c.in-At.is)
+
+pub returns : goal.returns
+unfolding load_tree
+returns c =
+    rw (← c.size-s.ensures, ← c.base.ensures, ← c.sum-va.ensures)
+    (executes_read c.translate-p.ensures c.in-At.is refl
+    (executes_fine c.translate-p.ensures.good (rw (c.fine.ensures, c.put.ensures, c.value-v.ensures, c.size-s.ensures))))

@@ -1,0 +1,20 @@
+-- The read at sp is denied (`executes_denied`), or lies in memory (`at_within`) and gives the word (`executes_read`); the leaf sets the register and sp
+-- (`executes_fine`).
+use Rattle.contracts.proofs.Laws.{executes_denied, executes_read, executes_fine}
+use Rattle.rules.specs.Transfer.{pop_tree}
+use Rattle.mmu.proofs.Laws.{at_within}
+use Rattle.memory.specs.declared.Size.TheVariants.{Word}
+use Rattle.transfer.proofs.pop.Goals as goal
+
+pub returns-in_default : goal.returns-in_default
+unfolding pop_tree
+returns-in_default c = search executes_denied
+
+pub load4-v-requires : goal.load4-v-requires
+load4-v-requires c = search (at_within Word)
+
+pub returns : goal.returns
+unfolding pop_tree
+returns c =
+    executes_read c.translate-p.ensures c.in-At.is c.load4-v.ensures
+    (executes_fine c.translate-p.ensures.good (rw (c.fine.ensures, c.put-n.ensures, c.sum.ensures)))
