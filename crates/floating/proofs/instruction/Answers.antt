@@ -1,0 +1,6 @@
+-- The decoded instruction is the table's, and it is executed.
+use Rattle.floating.proofs.instruction.Goals as goal
+
+pub returns : goal.returns
+returns c =
+    rw (← c.floating_decode.ensures) c.execute.ensures
