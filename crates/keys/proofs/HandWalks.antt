@@ -1,4 +1,4 @@
--- What the walks by hand share, here and in the crates above.
+-- What walks by hand in the crates above share of `keys`.
 use mathlib.Core.Bool.{Bool, true, false}
 use mathlib.Core.Path.{◌≡◌, refl}
 use mir.Val.{Val}
