@@ -45,7 +45,7 @@ def arguments(text):
 
 
 def norm(name):
-    return name.replace("_", "-")
+    return name.replace("_", "-").lower()
 
 
 class Names:
@@ -109,7 +109,7 @@ def turn_path(m, steps, pre):
             if int(parts[2]) < len(changed):
                 parts[2] = changed[int(parts[2])]
         parts[0] = new
-    return ".".join([head] + parts)
+    return ".".join([head] + [p.replace("well-formed", "well_formed") for p in parts])
 
 
 SIGNATURES = {}
