@@ -104,10 +104,15 @@ def turn_path(m, steps, pre):
                 path = [p for p in path]
                 if norm(old) == norm(parts[0]) and [norm(p) for p in parts[1 : 1 + len(path)]] == [norm(p) for p in path]:
                     return ".".join([head, step, field] + parts[1 + len(path) :])
-        if parts[1:2] == ["auto"] and len(parts) > 2 and parts[2].isdigit() and fn:
+        if parts[1:2] == ["auto"] and len(parts) > 2 and parts[2] in "01" and fn:
+            end = 2
+            while end < len(parts) and parts[end] == "1":
+                end += 1
+            index = end - 2
+            end += end < len(parts) and parts[end] == "0"
             changed = mutable_parameters(fn)
-            if int(parts[2]) < len(changed):
-                parts[2] = changed[int(parts[2])]
+            if index < len(changed):
+                parts[2:end] = [changed[index]]
         parts[0] = new
     return ".".join([head] + [p.replace("well-formed", "well_formed") for p in parts])
 
@@ -135,11 +140,11 @@ def turn_body(body, names, goal):
     steps = names.steps(goal)
     body = re.sub(r"(?<![^\s(){},;])c(?:\.[^\s(){},;.]+)+", lambda m: turn_path(m, steps, names.info.get("pre")), body)
     # a test `!x` of a local says by itself that x is false, or true; one of a field says it of `not x`
-    body = re.sub(r"\(not-(true|false) _ (c\.if-not-([^\s()]+?)\.\1)\)", lambda m: m[2] + ":" if m[3] in names.locals else m[0], body)
-    body = re.sub(r"not-(true|false) _ (c\.if-not-([^\s(),]+?)\.\1)", lambda m: m[2] + ":" if m[3] in names.locals else m[0], body)
+    body = re.sub(r"\(not-(true|false) _ (c\.if-not-([^\s()]+?)\.\1)\)", lambda m: m[2] + ":" if m[3].split("-")[0] in names.locals else m[0], body)
+    body = re.sub(r"not-(true|false) _ (c\.if-not-([^\s(),]+?)\.\1)", lambda m: m[2] + ":" if m[3].split("-")[0] in names.locals else m[0], body)
     body = re.sub(
         r"(?<!not-true _ )(?<!not-false _ )(?<![^\s(){},;])(c\.if-not-([^\s(),:]+?)\.(?:true|false))(?![:\w-])",
-        lambda m: f"(ap not {m[1]})" if m[2] in names.locals else m[0],
+        lambda m: f"(ap not {m[1]})" if m[2].split("-")[0] in names.locals else m[0],
         body,
     )
     return re.sub(r"(c\.if-not-[^\s(),:]+\.(?:true|false)):", r"\1", body)
@@ -153,7 +158,7 @@ def negated_locals(crate, path):
             text = open(os.path.join(folder, f)).read()
             m = re.search(rf"^ *(?:pub )?fn {re.escape(name)}\b.*?^}}", text, re.S | re.M)
             if m:
-                return set(re.findall(r"!([a-z_]\w*)(?![\w.(])", m[0]))
+                    return {x.split("::")[-1] for x in re.findall(r"!((?:[a-z_]\w*::)*[a-z_]\w*)(?![\w.:])", m[0])}
     return set()
 
 
