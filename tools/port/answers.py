@@ -68,7 +68,7 @@ class Names:
         while at is not None and at in self.places:
             parent, old, new, arm, told, fn = self.places[at]
             if old:
-                out.setdefault(norm(old), (new, arm, told, fn))
+                out.setdefault(norm(old), (new, arm, told, fn, self.info["params"].get(fn) or []))
             at = parent
         return out
 
@@ -91,7 +91,7 @@ def turn_path(m, steps, pre):
     if pre and parts[:1] == ["requires"] and len(parts) > 1 and parts[1].isdigit() and int(parts[1]) < len(pre["fields"]):
         parts[1] = pre["fields"][int(parts[1])]
     if parts and norm(parts[0]) in steps:
-        new, arm, told, fn = steps[norm(parts[0])]
+        new, arm, told, fn, kept = steps[norm(parts[0])]
         if told and parts[1:2] == ["ensures"] and not arm:
             fields = told["fields"]
             if len(fields) == 1 and parts[2:3] != fields:
@@ -104,35 +104,16 @@ def turn_path(m, steps, pre):
                 path = [p for p in path]
                 if norm(old) == norm(parts[0]) and [norm(p) for p in parts[1 : 1 + len(path)]] == [norm(p) for p in path]:
                     return ".".join([head, step, field] + parts[1 + len(path) :])
-        if parts[1:2] == ["auto"] and len(parts) > 2 and parts[2] in "01" and fn:
+        if parts[1:2] == ["auto"] and len(parts) > 2 and parts[2] in "01" and kept:
             end = 2
             while end < len(parts) and parts[end] == "1":
                 end += 1
             index = end - 2
             end += end < len(parts) and parts[end] == "0"
-            changed = mutable_parameters(fn)
-            if index < len(changed):
-                parts[2:end] = [changed[index]]
+            if index < len(kept):
+                parts[2:end] = [kept[index]]
         parts[0] = new
     return ".".join([head] + [p.replace("well-formed", "well_formed") for p in parts])
-
-
-SIGNATURES = {}
-
-
-def mutable_parameters(fn):
-    """The names of a function's `&mut` parameters, as in crate::module::name."""
-    if not SIGNATURES:
-        for folder, _, files in os.walk("crates"):
-            if "/src" not in folder:
-                continue
-            for f in files:
-                if f.endswith(".rt"):
-                    text = open(os.path.join(folder, f)).read()
-                    for m in re.finditer(r"fn (\w+)\s*\(([^)]*)\)", text):
-                        crate = folder.split("/")[1]
-                        SIGNATURES.setdefault((crate, m[1]), re.findall(r"(\w+): &mut", m[2]))
-    return SIGNATURES.get((fn.split("::")[0], fn.split("::")[-1]), [])
 
 
 def turn_body(body, names, goal):
@@ -158,7 +139,7 @@ def negated_locals(crate, path):
             text = open(os.path.join(folder, f)).read()
             m = re.search(rf"^ *(?:pub )?fn {re.escape(name)}\b.*?^}}", text, re.S | re.M)
             if m:
-                    return {x.split("::")[-1] for x in re.findall(r"!((?:[a-z_]\w*::)*[a-z_]\w*)(?![\w.:])", m[0])}
+                    return {x.split("::")[-1] for x in re.findall(r"!\(?((?:[a-z_]\w*::)*[a-z_]\w*)(?![\w.:])", m[0])}
     return set()
 
 
