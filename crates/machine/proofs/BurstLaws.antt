@@ -6,6 +6,7 @@ use mathlib.Core.List.{List, [], ◌∷◌}
 use mathlib.Core.Logic.{inl, inr}
 use mathlib.Core.Path.{◌≡◌, refl, sym, ap, ◌∙◌, subst}
 use types.Run.{OneOf}
+use borrow.Enum.Refused.{Among, opened}
 use denote.Enum.Declared as Declared
 use Rattle.word.specs.Word.{if◌then◌else◌}
 use Rattle.floating_decode.specs.Opcodes.{floating_decode_of}
@@ -29,8 +30,8 @@ use Rattle.machine.specs.Settled.{furthered, completed, settled}
 -- ---- ends
 
 -- an end that is no word without a row
-pub not_undecoded : (e : End) → OneOf (0 ∷ 1 ∷ 2 ∷ 3 ∷ 4 ∷ []) (Declared.tag_of End·type e) → (pad w : ℕ) → e ≡ Undecoded pad w → ⊥
-not_undecoded e h pad w q = none (subst (λ (x : End). OneOf (0 ∷ 1 ∷ 2 ∷ 3 ∷ 4 ∷ []) (Declared.tag_of End·type x)) q h)
+pub not_undecoded : (e : End) → Among (0 ∷ 1 ∷ 2 ∷ 3 ∷ 4 ∷ []) (Declared.tag_of End·type e) → (pad w : ℕ) → e ≡ Undecoded pad w → ⊥
+not_undecoded e h pad w q = none (subst (λ (x : End). OneOf (0 ∷ 1 ∷ 2 ∷ 3 ∷ 4 ∷ []) (Declared.tag_of End·type x)) q (opened h))
   where
     none : OneOf (0 ∷ 1 ∷ 2 ∷ 3 ∷ 4 ∷ []) 5 → ⊥
     none (inl p) = omega (arith, p)

@@ -7,6 +7,7 @@ use mathlib.Core.Logic.{inl, inr}
 use mathlib.Core.Path.{◌≡◌, refl, sym, ap, ◌∙◌, subst}
 use lib.ListN.{length}
 use types.Run.{OneOf}
+use borrow.Enum.Refused.{Among, opened}
 use denote.Enum.Declared as Declared
 use Rattle.paging.specs.declared.Space.{Space}
 use Rattle.mmu.specs.Good.{Good}
@@ -34,8 +35,8 @@ use Rattle.machine.proofs.SettledLaws.{settled_ok, settled_count, by_end}
 use Rattle.machine.proofs.QuietStep.{run_on, step_quiet}
 
 -- an end other than Ok
-pub not_ok : (e : End) → OneOf (1 ∷ 2 ∷ 3 ∷ 4 ∷ 5 ∷ []) (Declared.tag_of End·type e) → e ≡ Ok → ⊥
-not_ok e h q = none (subst (λ (x : End). OneOf (1 ∷ 2 ∷ 3 ∷ 4 ∷ 5 ∷ []) (Declared.tag_of End·type x)) q h)
+pub not_ok : (e : End) → Among (1 ∷ 2 ∷ 3 ∷ 4 ∷ 5 ∷ []) (Declared.tag_of End·type e) → e ≡ Ok → ⊥
+not_ok e h q = none (subst (λ (x : End). OneOf (1 ∷ 2 ∷ 3 ∷ 4 ∷ 5 ∷ []) (Declared.tag_of End·type x)) q (opened h))
   where
     none : OneOf (1 ∷ 2 ∷ 3 ∷ 4 ∷ 5 ∷ []) 0 → ⊥
     none (inl p) = omega (arith, p)

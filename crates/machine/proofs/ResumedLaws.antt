@@ -1,6 +1,7 @@
 -- Document 02, item 7: instructions one after another where the first is known to be a floating one: document 01's table ends at once.
 use Prim.Native.Nat.{ℕ, ◌≤◌, ◌<◌}
 use native.Mathlib.Omega.{arith}
+use borrow.Enum.Refused.{shut}
 use mathlib.Core.Bool.{Bool}
 use mathlib.Core.List.{List}
 use mathlib.Core.Logic.{inr}
@@ -22,7 +23,7 @@ module _ (s : Regs) (user : Bool) (space : Space) (limit : ℕ) (m l : List ℕ)
   pub floating_next : {a : Ahead} {w : ℕ} → LooksAhead s space user m l a → a ≡ Floating w → s.count < limit → EndsFrom s user space limit m l (bad s (Undecoded 0 w)) m l
   floating_next {w = w} h e below = λ c k u v.
       instructions_early c limit m l (from_start s user space limit m l g (omega (arith, below)) c k u v) below refl (executes_beside u v (subst (LooksAhead s space user m l) e h))
-      (not_ok (Undecoded 0 w) (inr (inr (inr (inr refl)))))
+      (not_ok (Undecoded 0 w) (shut (inr (inr (inr (inr refl))))))
 
   -- at the limit no instruction is
   pub none_left : s.count ≤ limit → limit ≤ s.count → EndsFrom s user space limit m l (ok s) m l
