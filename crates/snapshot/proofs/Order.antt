@@ -1,10 +1,10 @@
 -- Document 02, item 5: "lower wins", as the code tests; before a test that needs them, what the ones before it tell.
 use Prim.Native.Nat.{ℕ, ◌*◌, ◌^◌, ◌≤◌, ◌<◌}
 use native.Mathlib.Omega.{arith}
-use mathlib.Core.Bool.{Bool, true, false, not, ◌&&◌}
+use mathlib.Core.Bool.{Bool, true, false, ◌&&◌}
 use mathlib.Core.List.{List}
 use mathlib.Core.Path.{◌≡◌, sym, ◌∙◌, subst}
-use borrow.Author.Tests.{leb-true, eqb-true, le-leb, lt-leb, lt-ltb, le-ltb, not-true, not-false}
+use borrow.Author.Tests.{leb-true, eqb-true, le-leb, lt-leb, lt-ltb, le-ltb}
 use lib.Dec.{leb, eqb}
 use lib.ListN.{length}
 use Rattle.word.proofs.BoolLaws.{both}
@@ -26,11 +26,11 @@ use Rattle.snapshot.proofs.Answers.{size_most, held_few}
 
 -- the code asked a test b, which is the rules' t
 module _ {b t : Bool} (same : b ≡ t) where
-  pub passed : not b ≡ false → t ≡ true
-  passed left = sym same ∙ not-false b left
+  pub passed : b ≡ true → t ≡ true
+  passed left = sym same ∙ left
 
-  pub failed : not b ≡ true → t ≡ false
-  failed taken = sym same ∙ not-true b taken
+  pub failed : b ≡ false → t ≡ false
+  failed taken = sym same ∙ taken
 
 -- ---- saving
 
