@@ -69,8 +69,7 @@ loop-e-smaller c =
 
 pub loop-e-preserved : goal.loop-e-preserved
 loop-e-preserved c =
-    let after = c.resumed-b.ensures (reached c.args.c _ c.instruction-d.result.floats) refl refl refl in
-    (
+    let after = c.resumed-b.ensures (reached c.args.c _ c.instruction-d.result.floats) refl refl refl in (
       omega (arith, c.loop-e.invariant.0, c.instruction-d.auto.mem, c.resumed-b.auto.mem),
       (
         omega (arith, c.loop-e.invariant.1.0, c.instruction-d.auto.tlb, c.resumed-b.auto.tlb),
