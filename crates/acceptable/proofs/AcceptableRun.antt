@@ -1,5 +1,6 @@
 -- Document 01, "Numbers returned": an accepted record stays acceptable. After an accepted run, a run with the same keys and a budget of at most 1,000,000 is
 -- accepted too, in either machine, unless the step count has reached 2^63; then it is refused with 2, and for nothing else.
+use Rattle.std.proofs.Common.{if◌then◌else◌}
 use Prim.Native.Nat.{ℕ, zero, suc, ◌%◌, ◌^◌}
 use mathlib.Core.Path.{◌≡◌, refl, ap, sym, ◌∙◌}
 use mathlib.Core.Bool.{Bool, true, false}
@@ -8,7 +9,6 @@ use native.Mathlib.Omega.{arith}
 use lib.ListN.{length}
 use lib.Dec.{ltb, leb}
 use borrow.Author.Tests.{leb-true, le-leb}
-use Rattle.word.specs.Word.{if◌then◌else◌}
 use Rattle.memory.specs.Memory.{size_ok}
 use Rattle.paging.specs.declared.Entry.{Entry}
 use Rattle.paging.specs.Translate.{Translator, buffered, reader}

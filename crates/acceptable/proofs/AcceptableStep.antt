@@ -1,5 +1,6 @@
 -- Document 01, "Numbers returned": a step leaves an acceptable record, whatever the replies to its accesses. pc and ivec stay multiples of 4, sp, usp and ksp of 8,
 -- pdir a multiple of 4,096 below M; the keys taken stay within the list, and the console count within the console.
+use Rattle.std.proofs.Common.{if◌then◌else◌}
 use Prim.Native.Nat.{ℕ, ◌+◌, ◌≤◌, ◌<◌}
 use mathlib.Core.Path.{◌≡◌, refl, sym, ◌∙◌}
 use mathlib.Core.Bool.{Bool, true, false}
@@ -8,7 +9,7 @@ use native.Mathlib.Omega.{arith}
 use lib.ListN.{length, length-set}
 use lib.Dec.{eqb, ltb, leb}
 use borrow.Author.Tests.{ltb-true}
-use Rattle.word.specs.Word.{if◌then◌else◌, difference, sum, cut}
+use Rattle.word.specs.Word.{difference, sum, cut}
 use Rattle.decode.specs.declared.PlainOp.{PlainOp}
 use Rattle.decode.specs.declared.PlainOp.TheVariants.{Halt, Cli, Sti, Bin, Ssp, Ivec, Time, Lvad, Lusp, Susp, Msiz, Idle}
 use Rattle.paging.specs.declared.Space.{Space}

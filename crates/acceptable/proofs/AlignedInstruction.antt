@@ -1,11 +1,12 @@
 -- Document 01, "Addresses": "sp, usp and ksp, set by any instruction, drop their low three bits, pc and ivec their low two". From pc at a multiple of 4 and sp
 -- at a multiple of 8, every instruction leaves both so, a line for each.
+use Rattle.std.proofs.Common.{if◌then◌else◌}
 use Prim.Native.Nat.{ℕ, ◌%◌}
 use mathlib.Core.Path.{◌≡◌}
 use mathlib.Core.Bool.{Bool, true, false, not, ◌&&◌}
 use native.Mathlib.Omega.{arith}
 use lib.Dec.{eqb}
-use Rattle.word.specs.Word.{if◌then◌else◌, sum, difference}
+use Rattle.word.specs.Word.{sum, difference}
 use Rattle.decode.specs.Opcodes.{decode_of}
 use Rattle.decode.specs.declared.AluOp.{AluOp}
 use Rattle.decode.specs.declared.Operand.{Operand}

@@ -1,11 +1,11 @@
 -- What demand 3's statement takes in, each by a law that a weaker statement breaks: every state is a start, and all of it but the buffer is compared; each run
 -- gets its own keys and budget; the comparison has the first step with a store of demand 3's kind in it, and the reported steps where the run ends there.
+use Rattle.std.proofs.Common.{if◌then◌else◌}
 use Prim.Native.Nat.{ℕ}
 use mathlib.Core.Path.{◌≡◌, refl}
 use mathlib.Core.Bool.{Bool, true, false, ◌||◌}
 use mathlib.Core.List.{List, [], ◌∷◌, ◌++◌, map}
 use lib.ListN.{length, take}
-use Rattle.word.specs.Word.{if◌then◌else◌}
 use Rattle.paging.specs.Event.{Words}
 use Rattle.paging.specs.Held.{held_after, stores_held}
 use Rattle.paging.specs.Translate.{Translator, buffered, reader}

@@ -1,10 +1,10 @@
 -- Demand 3, proved: any list of runs, from any memory, console and record with an empty buffer.
+use Rattle.std.proofs.Common.{if◌then◌else◌}
 use Prim.Native.Nat.{ℕ}
 use mathlib.Core.Path.{◌≡◌, refl, ap}
 use mathlib.Core.Bool.{Bool, true, false}
 use mathlib.Core.List.{List, [], ◌∷◌, map}
 use lib.ListN.{length}
-use Rattle.word.specs.Word.{if◌then◌else◌}
 use Rattle.paging.specs.Buffer.{buffer_ok}
 use Rattle.paging.specs.Event.{Words}
 use Rattle.paging.specs.Translate.{buffered, reader}

@@ -1,9 +1,9 @@
 -- The invariant of demand 3 along a run: before each step the buffer is coherent, as long as no store of demand 3's kind was made.
+use Rattle.std.proofs.Common.{if◌then◌else◌}
 use Prim.Native.Nat.{ℕ, zero, suc}
 use mathlib.Core.Path.{◌≡◌}
 use mathlib.Core.Bool.{Bool, true, false}
 use mathlib.Core.List.{List, [], ◌∷◌}
-use Rattle.word.specs.Word.{if◌then◌else◌}
 use Rattle.paging.specs.declared.Entry.{Entry}
 use Rattle.paging.specs.Event.{Words}
 use Rattle.paging.specs.Held.{held_after, stores_held}

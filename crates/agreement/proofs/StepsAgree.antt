@@ -1,10 +1,10 @@
 -- Demand 3, one run: its steps in both machines, through the first store of demand 3's kind.
+use Rattle.std.proofs.Common.{if◌then◌else◌, MatchBool}
 use Prim.Native.Nat.{ℕ, zero, suc}
 use mathlib.Core.Path.{◌≡◌, refl, ap}
 use mathlib.Core.Bool.{Bool, true, false}
 use mathlib.Core.List.{List, [], ◌∷◌}
 use lib.ListN.{length}
-use Rattle.word.specs.Word.{if◌then◌else◌}
 use Rattle.paging.specs.declared.Entry.{Entry}
 use Rattle.paging.specs.Buffer.{buffer_ok}
 use Rattle.paging.specs.Event.{Words}
@@ -113,7 +113,7 @@ module _ (ks : List Key) where
 
       -- a store of demand 3's kind ends the comparison; without one it goes on
       after : Later → (c : Bool) → stores_held hs b.events ≡ c → Ending b.state t.state bs ts Rest → (length bs ≡ length ts → E)
-          → if c then IfLast bs E else AgreeSteps (held_after hs b.events) bs ts Rest E
+          → MatchBool c (IfLast bs E) (AgreeSteps (held_after hs b.events) bs ts Rest E)
       after later true q rest end = if_last n b.state t.state g.same end
       after later false q rest end =
           later (held_after hs b.events) (step_sound ks s hs o q) rest end

@@ -1,7 +1,6 @@
 -- Demand 3, the statement. Document 01, "The table reader": the machine with the page buffer agrees with the table reader over any list of runs,
 -- through the first store of demand 3's kind. It assumes nothing but that both start alike, the buffer empty.
-use Rattle.std.specs.Prelude.{ℕ, ◌≡◌, true, false, List, [], ◌∷◌}
-use Rattle.word.specs.Word.{if◌then◌else◌}
+use Rattle.std.specs.Prelude.{ℕ, ◌≡◌, true, false, List, [], ◌∷◌, MatchBool}
 use Rattle.paging.specs.Event.{Words}
 use Rattle.paging.specs.Held.{held_after, stores_held}
 use Rattle.paging.specs.Translate.{Translator, buffered, reader}
@@ -56,7 +55,7 @@ AgreeSteps hs [] (t ∷ ts) Rest E = ⊥
 AgreeSteps hs (b ∷ bs) [] Rest E = ⊥
 AgreeSteps hs (b ∷ bs) (t ∷ ts) Rest E =
     (shown b.state ≡ shown t.state)
-    × (if stores_held hs b.events then IfLast bs E else AgreeSteps (held_after hs b.events) bs ts Rest E)
+    × MatchBool (stores_held hs b.events) (IfLast bs E) (AgreeSteps (held_after hs b.events) bs ts Rest E)
 
 -- run by run: the answers; the steps; then reported steps, the states at the end, and the runs that follow
 abbrev pub Agree : {B C : Type 0} → List Words → List (Transcript B) → List (Transcript C) → Type 0

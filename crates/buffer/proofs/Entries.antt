@@ -1,8 +1,7 @@
 -- Laws of the rules alone: among entries that refusal 3 lets pass, the entry of a page alone decides a hit, and its frame is in memory.
-use Rattle.std.proofs.Common.{◌≡◌, ℕ, zero, suc, ◌/◌, ◌<◌, Bool, true, false, cond, not, ◌&&◌, ◌||◌, eqb, ltb, leb, List, [], ◌∷◌, length, get_or, sym, refl, ◌∙◌, arith, ltb-true, eq-eqb, ne_eqb, eqb-true}
+use Rattle.std.proofs.Common.{◌≡◌, ℕ, zero, suc, ◌/◌, ◌<◌, Bool, true, false, cond, not, ◌&&◌, ◌||◌, eqb, ltb, leb, List, [], ◌∷◌, length, get_or, sym, refl, ◌∙◌, arith, ltb-true, eq-eqb, ne_eqb, eqb-true, if◌then◌else◌}
 use mathlib.Core.Option.{none, some}
 use borrow.Author.Tests.{not-true}
-use Rattle.word.specs.Word.{if◌then◌else◌}
 use Rattle.paging.specs.declared.Access.{Access}
 use Rattle.paging.specs.declared.Entry.{Entry}
 use Rattle.paging.specs.Buffer.{serves, hit, has, entry_page, capacity, entry_ok, entries_ok, buffer_ok}

@@ -1,6 +1,5 @@
 -- The rules' `keep` by the place of a page's entry, and each way through the code that keeps an entry.
-use Rattle.std.proofs.Common.{◌≡◌, ℕ, suc, ◌+◌, ◌<◌, ◌≤◌, Bool, true, false, cond, ◌||◌, eqb, List, [], ◌∷◌, ◌++◌, length, set, refl, ap, ◌∙◌, arith, le-ltb, lt-ltb}
-use Rattle.word.specs.Word.{if◌then◌else◌}
+use Rattle.std.proofs.Common.{◌≡◌, ℕ, suc, ◌+◌, ◌<◌, ◌≤◌, Bool, true, false, cond, ◌||◌, eqb, List, [], ◌∷◌, ◌++◌, length, set, refl, ap, ◌∙◌, arith, le-ltb, lt-ltb, if◌then◌else◌}
 use Rattle.paging.specs.declared.Entry.{Entry}
 use Rattle.paging.specs.Buffer.{has, place, entry_page, fits, room_in, keep}
 use Rattle.paging.specs.Counting.{counted}

@@ -1,7 +1,6 @@
 -- Document 01, "Addresses", and document 02, item 6: the page buffer as it is lent, one array of numbers. Its layout is decided here alone: 64 slots with an
 -- entry each, then the count of entries, then the table walks counted. A slot past the count may hold anything.
-use Rattle.std.specs.Prelude.{◌≡◌, ℕ, suc, ◌/◌, ◌%◌, ◌≤◌, Bool, ◌&&◌, List, [], ◌∷◌, map, length, take, ◌==◌, nat_lt, slice_index}
-use Rattle.word.specs.Word.{if◌then◌else◌}
+use Rattle.std.specs.Prelude.{◌≡◌, ℕ, suc, ◌/◌, ◌%◌, ◌≤◌, Bool, ◌&&◌, List, [], ◌∷◌, map, length, take, ◌==◌, nat_lt, slice_index, if◌then◌else◌}
 use Rattle.paging.specs.declared.Access.{Access}
 use Rattle.paging.specs.declared.Entry.{Entry}
 use Rattle.paging.specs.Buffer.{serves}

@@ -1,4 +1,5 @@
 -- The opcode table, tested whole by computing: document 01, "Opcodes", all 256 values. Then the test of the illegal bytes as a law.
+use Rattle.std.proofs.Common.{if◌then◌else◌}
 use mathlib.Core.Path.{◌≡◌, refl, sym, subst}
 use mathlib.Core.Bool.{Bool, true, false, ◌&&◌, beq, false≢true}
 use mathlib.Core.List.{List, [], ◌∷◌}
@@ -6,7 +7,6 @@ use Prim.Native.Nat.{ℕ, zero, suc, ◌+◌, ◌<◌}
 use native.Mathlib.Nat.{add-zero, zero-add, add-suc, suc-add, le_of_suc-le-suc, not-suc-le-zero}
 use lib.Dec.{leb}
 use lib.ListN.{length}
-use Rattle.word.specs.Word.{if◌then◌else◌}
 use Rattle.decode.specs.Opcodes.{Row, table, opcode_of, is_illegal, is_privileged}
 use Rattle.decode.specs.Illegal.{floating_point, unassigned, size, illegal}
 use Rattle.decode.specs.Privileged.{privileged}

@@ -1,7 +1,7 @@
 -- The opcode table: document 01, "Opcodes", and the opcode tables of source 000.
 -- A byte that has no row is illegal: its line in 000 names f, g, rf, rg, double or float, or 000 has no line for it.
-use Rattle.std.specs.Prelude.{List, [], ◌∷◌, Bool, true, false, ℕ, ◌/◌, ◌%◌, eqb}
-use Rattle.word.specs.Word.{if◌then◌else◌, extend}
+use Rattle.std.specs.Prelude.{List, [], ◌∷◌, Bool, true, false, ℕ, ◌/◌, ◌%◌, eqb, if◌then◌else◌}
+use Rattle.word.specs.Word.{extend}
 use Rattle.memory.specs.declared.Size.TheVariants.{Word, Half, Byte}
 use Rattle.decode.specs.declared.Operand.TheVariants.{RegB, Imm, Stack}
 use Rattle.decode.specs.declared.AluOp.TheVariants.{Add, Sub, Mul, Div, Dvu, Mod, Mdu, And, Or, Xor, Shl, Shr, Sru}

@@ -1,7 +1,6 @@
 -- Document 02, item 7: "CDI and CDU cut toward zero; NaN or a value that doesn't fit afterwards is FARITH". Both cuts are one rule, with its limits and its word open.
-use Rattle.std.proofs.Common.{◌≡◌, ℕ, ◌+◌, ◌%◌, ◌^◌, ◌<◌, ◌≤◌, Bool, true, false, ltb, leb, ℤ, sym, refl, ap, ◌∙◌, arith, lit≤, le-ltb, lt-ltb}
+use Rattle.std.proofs.Common.{◌≡◌, ℕ, ◌+◌, ◌%◌, ◌^◌, ◌<◌, ◌≤◌, Bool, true, false, ltb, leb, ℤ, sym, refl, ap, ◌∙◌, arith, lit≤, le-ltb, lt-ltb, if◌then◌else◌}
 use lib.Ieee.{Float, nan, inf, fin, binary64, to_unsigned}
-use Rattle.word.specs.Word.{if◌then◌else◌}
 use Rattle.word.specs.Magnitude.{with_sign}
 use Rattle.double.specs.declared.Cut.{Cut}
 use Rattle.double.specs.declared.Cut.TheVariants.{Unfit, Fits}

@@ -1,5 +1,5 @@
 -- Document 02, item 7: FLOR and CEIL, whose zeros keep the operand's sign. The direction is open: the whole number next to a value, away from zero or toward it.
-use Rattle.std.proofs.Common.{◌≡◌, ℕ, ◌+◌, ◌-◌, ◌*◌, ◌%◌, ◌^◌, ◌<◌, ◌≤◌, Bool, true, false, cond, not, ◌&&◌, eqb, ltb, leb, ℤ, pos, sym, refl, ap, ◌∙◌, add-zero, div-add-mod', mul-one, arith, lit≤, le-ltb, lt-ltb, eq-eqb, ne_eqb, eqb-true, leb-false, leb-true}
+use Rattle.std.proofs.Common.{◌≡◌, ℕ, ◌+◌, ◌-◌, ◌*◌, ◌%◌, ◌^◌, ◌<◌, ◌≤◌, Bool, true, false, cond, not, ◌&&◌, eqb, ltb, leb, ℤ, pos, sym, refl, ap, ◌∙◌, add-zero, div-add-mod', mul-one, arith, lit≤, le-ltb, lt-ltb, eq-eqb, ne_eqb, eqb-true, leb-false, leb-true, if◌then◌else◌}
 use native.Mathlib.Nat.{mul-mod_left}
 use borrow.Author.Tests.{eqb-false}
 use lib.Ieee.{Float, nan, inf, fin, binary64, up, down, round, of_int, to_unsigned}
@@ -8,7 +8,6 @@ use lib.Ieee.Fits.{round-fits, of_int-fits}
 use lib.Ieee.Exact.{HasValue}
 use lib.Ieee.Back.{round_whole, whole_unique}
 use mir.Val.{bool_byte}
-use Rattle.word.specs.Word.{if◌then◌else◌}
 use Rattle.double.specs.Arithmetic.{value_of, pattern_of}
 use Rattle.double.specs.Whole.{whole_part, has_fraction, whole_by, floor_value, floor_of, ceiling_value, ceiling_of}
 use Rattle.double.specs.NextWhole.{next_whole}

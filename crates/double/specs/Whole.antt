@@ -1,11 +1,10 @@
 -- Document 02, item 7: doubles and whole numbers. "CDI and CDU cut toward zero; NaN or a value that doesn't fit afterwards is FARITH"; FLOR and CEIL, whose zeros
 -- keep the operand's sign.
-use Rattle.std.specs.Prelude.{ℕ, ◌+◌, ◌*◌, ◌/◌, ◌%◌, ◌^◌, Bool, not, ◌&&◌, ℤ, pos, ◌==◌, nat_lt, Float}
+use Rattle.std.specs.Prelude.{ℕ, ◌+◌, ◌*◌, ◌/◌, ◌%◌, ◌^◌, Bool, not, ◌&&◌, ℤ, pos, ◌==◌, nat_lt, Float, if◌then◌else◌}
 use Rattle.std.specs.Float.{nan, inf, fin, binary64}
 use Rattle.std.specs.Float.Ieee.{up, down, round, of_int}
 use Rattle.std.specs.Int.{w32}
 use Rattle.std.proofs.Common.{to_z}
-use Rattle.word.specs.Word.{if◌then◌else◌}
 use Rattle.word.specs.Magnitude.{with_sign}
 use Rattle.double.specs.declared.Cut.{Cut}
 use Rattle.double.specs.declared.Cut.TheVariants.{Unfit, Fits}

@@ -1,12 +1,11 @@
 // Document 02, item 7: doubles. A number is its 64-bit pattern; an f64 exists only within a function, after its NaN test.
 #![tactic(auto)]
 
-ghost use Rattle.std.specs.Prelude.{◌≡◌, ◌*◌, ◌^◌, ◌<◌, ◌≤◌, ◌||◌, pos};
+ghost use Rattle.std.specs.Prelude.{◌≡◌, ◌*◌, ◌^◌, ◌<◌, ◌≤◌, ◌||◌, pos, if◌then◌else◌};
 ghost use Rattle.std.specs.Float.Ieee.{nan_bits, to_unsigned, of_int};
 ghost use Rattle.std.specs.Float.{binary32, binary64};
 ghost use Rattle.std.specs.Int.{w32};
 ghost use Rattle.std.proofs.Common.{to_z};
-ghost use Rattle.word.specs.Word.{if◌then◌else◌};
 ghost use Rattle.word.specs.Magnitude.{with_sign};
 ghost use Rattle.double.specs.Arithmetic.{value_of, pattern_of, sum_of, difference_of, product_of, quotient_of, absolute_of};
 ghost use Rattle.double.specs.Comparison.{equals, less, at_least};

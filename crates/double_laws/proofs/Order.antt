@@ -1,4 +1,5 @@
 -- Document 02, item 7: FLOR is the greatest whole number that is at most x, CEIL the least that is at least x, by the order of doubles.
+use Rattle.std.proofs.Common.{if◌then◌else◌}
 use mathlib.Core.Path.{◌≡◌, refl, sym, ap, ◌∙◌, subst}
 use mathlib.Core.Bool.{Bool, true, false, not, ◌&&◌}
 use Prim.Native.Nat.{ℕ, zero, suc, ◌+◌, ◌*◌, ◌/◌, ◌%◌, ◌^◌, ◌≤◌, ◌<◌}
@@ -15,7 +16,6 @@ use lib.Ieee.Bits.{of_bits-to_bits, of_bits-fits}
 use lib.Ieee.Exact.{HasValue, round_exact}
 use lib.Ieee.Fits.{down_pos, and_l, and_r}
 use lib.Ieee.Scale.{finite}
-use Rattle.word.specs.Word.{if◌then◌else◌}
 use Rattle.double.specs.Arithmetic.{value_of}
 use Rattle.double.specs.Whole.{whole_part, has_fraction, whole_by, floor_value, floor_of, ceiling_value, ceiling_of}
 use Rattle.double_laws.proofs.Canonical.{floor_fits, ceiling_fits}

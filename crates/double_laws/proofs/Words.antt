@@ -1,4 +1,5 @@
 -- Document 02, item 7: CID, CUD, CDI and CDU. A double holds every 32-bit number, so a word made a double and cut again is itself.
+use Rattle.std.proofs.Common.{if◌then◌else◌}
 use mathlib.Core.Path.{◌≡◌, refl, sym, ap, ◌∙◌}
 use mathlib.Core.Bool.{Bool, true, false}
 use Prim.Native.Nat.{ℕ, suc, ◌+◌, ◌-◌, ◌*◌, ◌/◌, ◌^◌, ◌≤◌, ◌<◌}
@@ -14,7 +15,6 @@ use lib.Ieee.Exact.{HasValue}
 use lib.Ieee.Fits.{of_int-fits, down_pos}
 use mir.Syntax.{w32}
 use mir.Val.{to_z}
-use Rattle.word.specs.Word.{if◌then◌else◌}
 use Rattle.word.specs.Magnitude.{with_sign}
 use Rattle.double.specs.declared.Cut.TheVariants.{Fits}
 use Rattle.double.specs.Arithmetic.{value_of, pattern_of}

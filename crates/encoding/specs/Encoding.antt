@@ -1,6 +1,5 @@
 -- Document 02, item 5: "little-endian words"; "64 bits take eight bytes, all else a word". Numbers of both widths, one after another.
-use Rattle.std.specs.Prelude.{ℕ, zero, suc, ◌+◌, ◌/◌, ◌%◌, ◌^◌, ◌<◌, Bool, List, [], ◌∷◌, ◌++◌, ◌≡◌}
-use Rattle.word.specs.Word.{if◌then◌else◌}
+use Rattle.std.specs.Prelude.{ℕ, zero, suc, ◌+◌, ◌/◌, ◌%◌, ◌^◌, ◌<◌, Bool, List, [], ◌∷◌, ◌++◌, ◌≡◌, if◌then◌else◌}
 use Rattle.memory.specs.Memory.{load_n}
 
 -- the bytes that a number takes: `long` are those of 64 bits

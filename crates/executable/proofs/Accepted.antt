@@ -1,4 +1,5 @@
 -- Document 01, "Numbers returned": what holds of a file that is accepted, and of the memory that it is loaded into: no test refused it.
+use Rattle.std.proofs.Common.{if◌then◌else◌}
 use Prim.Native.Nat.{ℕ, ◌+◌, ◌-◌, ◌%◌, ◌<◌, ◌≤◌}
 use mathlib.Core.Bool.{Bool, true, false, ◌&&◌}
 use mathlib.Core.List.{List}
@@ -7,7 +8,6 @@ use native.Mathlib.Omega.{arith}
 use borrow.Author.Tests.{leb-true, ltb-true, eqb-true}
 use lib.Dec.{eqb, ltb, leb}
 use lib.ListN.{length}
-use Rattle.word.specs.Word.{if◌then◌else◌}
 use Rattle.word.proofs.BoolLaws.{both}
 use Rattle.memory.specs.Memory.{size_ok}
 use Rattle.executable.specs.declared.LoadAnswer.{LoadAnswer}

@@ -1,6 +1,5 @@
 -- Document 01, "The record and the loaded program" and "Numbers returned": the executable, and a load's refusals, apart from any machine.
-use Rattle.std.specs.Prelude.{ℕ, ◌+◌, ◌-◌, ◌%◌, Bool, ◌&&◌, List, length, drop, eqb, ltb, leb}
-use Rattle.word.specs.Word.{if◌then◌else◌}
+use Rattle.std.specs.Prelude.{ℕ, ◌+◌, ◌-◌, ◌%◌, Bool, ◌&&◌, List, length, drop, eqb, ltb, leb, if◌then◌else◌}
 use Rattle.memory.specs.Memory.{load_n, size_ok}
 use Rattle.executable.specs.declared.LoadAnswer.{LoadAnswer}
 use Rattle.executable.specs.declared.LoadAnswer.TheVariants.{Accepted, BadSize, ShortFile, BadMagic, BadBody, BadDataStart, BadEntry}

@@ -1,11 +1,11 @@
 -- Document 01, "Opcodes": laws of the arithmetic instructions and of the fetch.
+use Rattle.std.proofs.Common.{if◌then◌else◌}
 use Prim.Native.Nat.{ℕ}
 use mathlib.Core.Bool.{Bool, true, false, ◌&&◌}
 use mathlib.Core.List.{List}
 use mathlib.Core.Path.{◌≡◌, refl}
 use lib.Dec.{eqb}
 use lib.ListN.{length}
-use Rattle.word.specs.Word.{if◌then◌else◌}
 use Rattle.memory.specs.Memory.{load_n}
 use Rattle.decode.specs.declared.AluOp.{AluOp}
 use Rattle.decode.specs.declared.Instr.{Instr}

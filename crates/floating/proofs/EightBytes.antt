@@ -1,5 +1,6 @@
 -- Document 02, item 7: "eight-byte accesses drop three address bits". Eight bytes are translated as the word at their address is, with three bits of an answered
 -- address dropped; a fault is the same.
+use Rattle.std.proofs.Common.{if◌then◌else◌}
 use Prim.Native.Nat.{ℕ, ◌+◌, ◌*◌, ◌/◌, ◌≤◌}
 use native.Mathlib.Omega.{arith}
 use mathlib.Core.Bool.{Bool, true, false}
@@ -8,7 +9,7 @@ use mathlib.Core.Option.{Option, none, some}
 use mathlib.Core.Path.{◌≡◌, refl, sym, ap, ◌∙◌, subst}
 use lib.ListN.{length}
 use lib.Dec.{ltb}
-use Rattle.word.specs.Word.{if◌then◌else◌, cut}
+use Rattle.word.specs.Word.{cut}
 use Rattle.memory.specs.declared.Size.TheVariants.{Word}
 use Rattle.paging.specs.declared.Access.{Access}
 use Rattle.paging.specs.declared.Entry.{Entry}

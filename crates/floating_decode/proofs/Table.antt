@@ -1,11 +1,11 @@
 -- The table of the floating opcodes, tested whole by computing, beside document 01's: document 02, item 7, all 256 values. Then its disjointness as a law.
+use Rattle.std.proofs.Common.{if◌then◌else◌}
 use mathlib.Core.Path.{◌≡◌, refl, sym}
 use mathlib.Core.Bool.{Bool, true, false, not, ◌&&◌, ◌||◌, true≢false}
 use mathlib.Core.List.{List, [], ◌∷◌}
 use Prim.Native.Nat.{ℕ, zero, suc, ◌+◌, ◌<◌}
 use lib.Dec.{leb, eqb}
 use lib.ListN.{length}
-use Rattle.word.specs.Word.{if◌then◌else◌}
 use Rattle.decode.specs.Opcodes.{table, opcode_of, is_illegal}
 use Rattle.decode.specs.Illegal.{floating_point, within}
 use Rattle.decode.proofs.Table.{every, every_below}

@@ -1,11 +1,12 @@
 -- Document 02, item 7: a word that is a floating instruction is none of document 01's.
+use Rattle.std.proofs.Common.{if◌then◌else◌}
 use native.Mathlib.Omega.{arith}
 use mathlib.Core.Path.{◌≡◌, refl, sym, ap, ◌∙◌}
 use mathlib.Core.Bool.{Bool, true, false, not, ◌&&◌, true≢false}
 use mathlib.Core.List.{List, [], ◌∷◌}
 use Prim.Native.Nat.{ℕ, ◌/◌, ◌%◌}
 use lib.Dec.{eqb}
-use Rattle.word.specs.Word.{if◌then◌else◌, extend}
+use Rattle.word.specs.Word.{extend}
 use Rattle.decode.specs.declared.Instr.TheVariants.{Illegal}
 use Rattle.decode.specs.Opcodes.{Row, find, table, opcode_of, decode_of, is_illegal}
 use Rattle.floating_decode.specs.Opcodes.{floating_decode_of}

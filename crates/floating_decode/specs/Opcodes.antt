@@ -1,7 +1,7 @@
 -- The table of the floating opcodes: document 02, item 7, and the opcode tables of source 000. "Loads to a, and stores, mean f; loads to b mean g."
 -- It is asked only where document 01's table has no row, and has none where that one has.
-use Rattle.std.specs.Prelude.{List, [], ◌∷◌, ℕ, ◌/◌, ◌%◌, eqb}
-use Rattle.word.specs.Word.{if◌then◌else◌, extend}
+use Rattle.std.specs.Prelude.{List, [], ◌∷◌, ℕ, ◌/◌, ◌%◌, eqb, if◌then◌else◌}
+use Rattle.word.specs.Word.{extend}
 use Rattle.decode.specs.declared.Base.TheVariants as base
 use Rattle.floating_decode.specs.declared.FloatReg.TheVariants.{F, G}
 use Rattle.floating_decode.specs.declared.Precision.TheVariants.{Double, Single}

@@ -1,12 +1,12 @@
 -- Document 02, item 2: what reading a line gives, by the code's tests; then "turn each listed line .. back into the address and word it came from", for every accepted
 -- file and every word of it.
+use Rattle.std.proofs.Common.{if◌then◌else◌}
 use Prim.Native.Nat.{ℕ, ◌*◌, ◌<◌}
 use mathlib.Core.Bool.{Bool, true, false, true≢false}
 use mathlib.Core.List.{List}
 use mathlib.Core.Path.{◌≡◌, refl, sym, ◌∙◌}
 use native.Mathlib.Omega.{arith}
 use lib.ListN.{length}
-use Rattle.word.specs.Word.{if◌then◌else◌}
 use Rattle.text.specs.Hex.{hex_value}
 use Rattle.text.proofs.HexLaws.{hex_value_below}
 use Rattle.listing.specs.declared.LineAnswer.{LineAnswer}

@@ -1,6 +1,5 @@
 -- Document 02, item 2: "A program should print an executable .., one line a word"; "A file the run program refuses gets its refused line".
-use Rattle.std.specs.Prelude.{ℕ, zero, suc, ◌+◌, ◌*◌, ◌/◌, ◌≤◌, List, [], ◌∷◌, ◌++◌, ◌≡◌, eqb, leb, length, get_or, take, drop}
-use Rattle.word.specs.Word.{if◌then◌else◌}
+use Rattle.std.specs.Prelude.{ℕ, zero, suc, ◌+◌, ◌*◌, ◌/◌, ◌≤◌, List, [], ◌∷◌, ◌++◌, ◌≡◌, eqb, leb, length, get_or, take, drop, if◌then◌else◌}
 use Rattle.memory.specs.Memory.{load_n}
 use Rattle.executable.specs.Executable.{load_number, load_answer, data_start_of, body_of}
 use Rattle.text.specs.Ascii.{ascii}

@@ -1,7 +1,6 @@
 -- How a computed line is written: the bytes that a definition gives and the text that they must be; or a text, and the number that reading it back must answer.
-use Rattle.std.specs.Prelude.{ℕ, Bool, List, [], ◌∷◌, eqb}
+use Rattle.std.specs.Prelude.{ℕ, Bool, List, [], ◌∷◌, eqb, if◌then◌else◌}
 use Prim.Native.String.{String}
-use Rattle.word.specs.Word.{if◌then◌else◌}
 use Rattle.text.specs.Ascii.{ascii}
 use Rattle.listing.specs.Stands.{equal}
 use Rattle.listing.proofs.Reading.{is_listed}

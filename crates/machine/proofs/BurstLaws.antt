@@ -1,4 +1,5 @@
 -- Document 02, item 7: instructions of the machine's mode one after another: by document 01's table, and from where that one has no row by the mode's.
+use Rattle.std.proofs.Common.{if◌then◌else◌}
 use Prim.Native.Nat.{ℕ}
 use native.Mathlib.Omega.{arith}
 use mathlib.Core.Bool.{Bool, true, false}
@@ -8,7 +9,6 @@ use mathlib.Core.Path.{◌≡◌, refl, sym, ap, ◌∙◌, subst}
 use types.Run.{OneOf}
 use borrow.Enum.Refused.{Among, opened}
 use denote.Enum.Declared as Declared
-use Rattle.word.specs.Word.{if◌then◌else◌}
 use Rattle.floating_decode.specs.Opcodes.{floating_decode_of}
 use Rattle.mmu.specs.Translates.{Kept, result, kept_in, translator}
 use Rattle.rules.specs.declared.Cpu.{Cpu}

@@ -1,10 +1,10 @@
 -- Document 01, "One step", rule 5: the state after the rest of a step, from how its instruction ended.
+use Rattle.std.proofs.Common.{if◌then◌else◌}
 use Prim.Native.Nat.{ℕ}
 use mathlib.Core.Bool.{Bool, true, false}
 use mathlib.Core.List.{List, []}
 use mathlib.Core.Path.{◌≡◌, refl, ap, ◌∙◌}
 use lib.ListN.{length}
-use Rattle.word.specs.Word.{if◌then◌else◌}
 use Rattle.floating_decode.specs.Opcodes.{floating_decode_of}
 use Rattle.mmu.specs.Translates.{Kept, Result, result, translator}
 use Rattle.rules.specs.declared.Regs.{Regs}

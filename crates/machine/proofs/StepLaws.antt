@@ -1,10 +1,10 @@
 -- Document 01, "One step", rules 4 and 5, and document 02, item 1: the three ends of a step.
+use Rattle.std.proofs.Common.{if◌then◌else◌}
 use Prim.Native.Nat.{ℕ, ◌+◌}
 use mathlib.Core.Bool.{Bool, true, false}
 use mathlib.Core.List.{List, []}
 use mathlib.Core.Path.{◌≡◌, refl, sym, ap, ◌∙◌, subst}
 use lib.ListN.{length}
-use Rattle.word.specs.Word.{if◌then◌else◌}
 use Rattle.mmu.specs.Good.{Good}
 use Rattle.mmu.specs.Translates.{result, kept_in, translator}
 use Rattle.rules.specs.declared.Cpu.{Cpu}

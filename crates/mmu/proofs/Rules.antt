@@ -1,4 +1,5 @@
 -- An answered address lies in memory with all its bytes. A law of the rules alone.
+use Rattle.std.proofs.Common.{if◌then◌else◌}
 use Prim.Native.Nat.{ℕ, ◌+◌, ◌/◌, ◌%◌, ◌≤◌, ◌<◌}
 use native.Mathlib.Omega.{arith}
 use mathlib.Core.Bool.{Bool, true, false}
@@ -8,7 +9,7 @@ use mathlib.Core.List.{List}
 use lib.ListN.{length}
 use lib.Dec.{ltb}
 use borrow.Author.Tests.{ltb-true}
-use Rattle.word.specs.Word.{if◌then◌else◌, cut}
+use Rattle.word.specs.Word.{cut}
 use Rattle.memory.specs.declared.Size.{Size}
 use Rattle.memory.specs.declared.Size.TheVariants.{Word, Half, Byte}
 use Rattle.memory.specs.Memory.{bytes}

@@ -1,4 +1,5 @@
 -- The bytes of an opcode in the table of cells, by what the cells are made of.
+use Rattle.std.proofs.Common.{if◌then◌else◌}
 use Prim.Native.Nat.{ℕ, zero, suc, ◌+◌, ◌-◌, ◌*◌, ◌<◌, ◌≤◌}
 use mathlib.Core.Bool.{Bool, true, false, ◌&&◌}
 use mathlib.Core.List.{List, [], ◌∷◌, ◌++◌, append_assoc}
@@ -9,7 +10,6 @@ use borrow.Author.Tests.{eqb-true, eq-eqb, ne_eqb}
 use lib.Dec.{eqb}
 use lib.ListN.{length, get_or, take, drop, replicate, length-append, length-replicate, get_or-append}
 use lib.Seq.{take-append-le, take-append_seam, drop-append-add, get_or-drop, get_or_at}
-use Rattle.word.specs.Word.{if◌then◌else◌}
 use Rattle.word.proofs.BoolLaws.{both}
 use Rattle.text.specs.Ascii.{ascii}
 use Rattle.mnemonics.specs.declared.OperandForm.{OperandForm}

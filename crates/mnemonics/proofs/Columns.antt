@@ -1,4 +1,5 @@
 -- Document 02, item 2: where the fields of a word's line stand, whatever its form; and how long a line is.
+use Rattle.std.proofs.Common.{if◌then◌else◌}
 use Prim.Native.Nat.{ℕ, ◌+◌, ◌-◌, ◌/◌, ◌%◌, ◌^◌, ◌<◌, ◌≤◌}
 use mathlib.Core.Bool.{Bool, true, false}
 use mathlib.Core.List.{List, [], ◌∷◌, ◌++◌, append_assoc}
@@ -8,7 +9,7 @@ use borrow.Author.Tests.{ltb-true, ltb-false}
 use lib.Dec.{ltb}
 use lib.ListN.{length, length-append}
 use lib.Seq.{append_snoc}
-use Rattle.word.specs.Word.{if◌then◌else◌, extend}
+use Rattle.word.specs.Word.{extend}
 use Rattle.text.specs.Ascii.{ascii}
 use Rattle.text.specs.Digits.{decimal_of}
 use Rattle.text.specs.Hex.{hex_of, hex_value}

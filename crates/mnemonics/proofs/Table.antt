@@ -1,12 +1,12 @@
 -- Document 02, item 2: the table of mnemonics, tested whole by computing, beside the opcode table: it names exactly the legal opcodes, "signed operand in decimal
 -- where 000 writes i or imme, but for JMP, JSR and branches only the target".
+use Rattle.std.proofs.Common.{if◌then◌else◌}
 use Prim.Native.Nat.{ℕ, suc, ◌<◌}
 use mathlib.Core.Bool.{Bool, true, false, not, ◌&&◌, ◌||◌, beq}
 use mathlib.Core.List.{List, [], ◌∷◌}
 use mathlib.Core.Path.{◌≡◌, refl}
 use lib.Dec.{eqb}
 use lib.ListN.{length}
-use Rattle.word.specs.Word.{if◌then◌else◌}
 use Rattle.decode.specs.Opcodes.{table, opcode_of, is_illegal}
 use Rattle.decode.specs.Target.{has_target}
 use Rattle.decode.proofs.Table.{every, every_below, same}

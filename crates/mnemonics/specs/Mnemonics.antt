@@ -1,8 +1,7 @@
 -- Document 02, item 2: "mnemonic, signed operand in decimal where 000 writes i or imme, but for JMP, JSR and branches only the target". Source 000's
 -- lines in their order, but for those of illegal opcodes: "Illegal opcodes list as data", "the name `data`, without operand".
-use Rattle.std.specs.Prelude.{ℕ, List, [], ◌∷◌, eqb}
+use Rattle.std.specs.Prelude.{ℕ, List, [], ◌∷◌, eqb, if◌then◌else◌}
 use Prim.Native.String.{String}
-use Rattle.word.specs.Word.{if◌then◌else◌}
 use Rattle.text.specs.Ascii.{ascii}
 use Rattle.mnemonics.specs.declared.OperandForm.{OperandForm}
 use Rattle.mnemonics.specs.declared.OperandForm.TheVariants.{Nothing, Immediate, Target}

@@ -1,11 +1,11 @@
 -- Document 02, item 7: the record with another mode, f and g. What follows an instruction, unless that was a floating one, does with such a record what it does with
 -- the first, and hands the mode, f and g on: trees whose leaves differ in them alone (`Carried`). A machine comes with such trees to the same end but for them.
+use Rattle.std.proofs.Common.{if◌then◌else◌}
 use Prim.Native.Nat.{ℕ}
 use mathlib.Core.Path.{◌≡◌, refl, ap}
 use mathlib.Core.Bool.{Bool, true, false}
 use mathlib.Core.List.{List, []}
 use lib.Dec.{eqb, ltb}
-use Rattle.word.specs.Word.{if◌then◌else◌}
 use Rattle.decode.specs.declared.PlainOp.{PlainOp}
 use Rattle.decode.specs.declared.PlainOp.TheVariants.{Halt, Cli, Sti, Bin, Ssp, Ivec, Time, Lvad, Lusp, Susp, Msiz, Idle}
 use Rattle.decode.specs.declared.SysOp.{SysOp}

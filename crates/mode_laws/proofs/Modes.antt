@@ -2,12 +2,12 @@
 -- so for both machines. In the old mode the instruction is document 01's, every other word traps FINST, and a step neither reads nor changes f and g (`old_executed`,
 -- `old_undecoded`, `old_step`, `old_floats`). A word with a row in that table does in each mode the same, and changes neither f nor g (`listed_same`, `listed_step`,
 -- `listed_floats`). No step changes the mode (`mode_kept`).
+use Rattle.std.proofs.Common.{if◌then◌else◌}
 use Prim.Native.Nat.{ℕ}
 use mathlib.Core.Path.{◌≡◌, refl, sym, ap, ◌∙◌}
 use mathlib.Core.Bool.{Bool, true, false, true≢false}
 use mathlib.Core.List.{List, [], ◌++◌}
 use lib.ListN.{length}
-use Rattle.word.specs.Word.{if◌then◌else◌}
 use Rattle.decode.specs.Opcodes.{decode_of, is_illegal}
 use Rattle.decode.specs.declared.Instr.{Instr}
 use Rattle.decode.specs.declared.Instr.TheVariants.{Illegal}

@@ -1,6 +1,5 @@
 -- Document 01, "Opcodes": "Zero divisor: FARITH", as the code answers it.
-use Rattle.std.specs.Prelude.{ℕ, ◌&&◌, eqb}
-use Rattle.word.specs.Word.{if◌then◌else◌}
+use Rattle.std.specs.Prelude.{ℕ, ◌&&◌, eqb, if◌then◌else◌}
 use Rattle.decode.specs.declared.AluOp.{AluOp}
 use Rattle.rules.specs.Arithmetic.{alu_of, divides}
 use Rattle.operations.specs.declared.Computed.{Computed}

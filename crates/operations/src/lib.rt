@@ -1,8 +1,8 @@
 // Document 01, "Opcodes": what operations and tests give, and what instructions make of the registers alone. pc has moved on.
 #![tactic(auto)]
 
-ghost use Rattle.std.specs.Prelude.{◌≡◌};
-ghost use Rattle.word.specs.Word.{if◌then◌else◌, sum};
+ghost use Rattle.std.specs.Prelude.{◌≡◌, if◌then◌else◌};
+ghost use Rattle.word.specs.Word.{sum};
 ghost use Rattle.rules.specs.Record.{set_sp};
 ghost use Rattle.rules.specs.Transfer.{reg_of, put_reg, base_of, high_of};
 ghost use Rattle.rules.specs.Jump.{target as jump_target, jumped};

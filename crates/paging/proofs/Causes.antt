@@ -1,6 +1,7 @@
 -- Document 02, item 4: why a request is denied. In the table reader it is denied with the first of the seven checks that fails, by the code that comes with this
 -- cause, and answered where none fails (`reader_fault`); so it is in the machine with the page buffer, from a coherent buffer (`request_fault`), and whatever the buffer holds no other
 -- cause is named (`denied_first`).
+use Rattle.std.proofs.Common.{if◌then◌else◌}
 use Prim.Native.Nat.{ℕ, ◌%◌}
 use mathlib.Core.Path.{◌≡◌, refl, sym, ap, ◌∙◌}
 use mathlib.Core.Bool.{Bool, true, false, ◌&&◌}
@@ -9,7 +10,7 @@ use mathlib.Core.Option.{Option, none, some}
 use native.Mathlib.Omega.{arith}
 use lib.Dec.{ltb}
 use lib.ListN.{length}
-use Rattle.word.specs.Word.{if◌then◌else◌, cut}
+use Rattle.word.specs.Word.{cut}
 use Rattle.memory.specs.Memory.{load_n}
 use Rattle.paging.specs.declared.Access.{Access}
 use Rattle.paging.specs.declared.Answer.TheVariants.{At}

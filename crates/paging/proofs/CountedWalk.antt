@@ -1,4 +1,5 @@
 -- Document 02, item 6: the events of one walk: it began, and set marks. It is one walk, whether it ends in a fault or not, and keeping its entry is none.
+use Rattle.std.proofs.Common.{if◌then◌else◌}
 use Prim.Native.Nat.{ℕ, suc}
 use mathlib.Core.Path.{◌≡◌, refl, ap}
 use mathlib.Core.Bool.{Bool, true, false, not, ◌&&◌, ◌||◌}
@@ -6,7 +7,7 @@ use mathlib.Core.List.{List, [], ◌∷◌, ◌++◌}
 use native.Mathlib.Omega.{arith}
 use lib.ListN.{length}
 use lib.Dec.{ltb}
-use Rattle.word.specs.Word.{if◌then◌else◌, cut}
+use Rattle.word.specs.Word.{cut}
 use Rattle.memory.specs.Memory.{load_n}
 use Rattle.paging.specs.declared.Access.{Access}
 use Rattle.paging.specs.declared.Access.TheVariants.{Read}

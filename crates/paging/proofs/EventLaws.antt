@@ -1,9 +1,9 @@
 -- Document 01, "The table reader": what is held, and demand 3's kind of store, over events one after another.
+use Rattle.std.proofs.Common.{if◌then◌else◌}
 use Prim.Native.Nat.{ℕ}
 use mathlib.Core.Path.{◌≡◌, refl, ◌∙◌}
 use mathlib.Core.Bool.{Bool, true, false, not, ◌&&◌, ◌||◌}
 use mathlib.Core.List.{List, [], ◌∷◌, ◌++◌}
-use Rattle.word.specs.Word.{if◌then◌else◌}
 use Rattle.paging.specs.declared.Access.{Access}
 use Rattle.paging.specs.Event.{Event, walked, kept, emptied, marked, stored, delivered, Words}
 use Rattle.paging.specs.Walk.{is_write, accessed, dirty, mark_events}

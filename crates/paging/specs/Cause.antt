@@ -1,7 +1,7 @@
 -- Document 02, item 4: the seven checks of translation, in its order, "which is document 01's order of checking", and the trap code that comes with each cause.
-use Rattle.std.specs.Prelude.{ℕ, Bool, ◌||◌, List, [], ◌∷◌, ltb, length}
+use Rattle.std.specs.Prelude.{ℕ, Bool, ◌||◌, List, [], ◌∷◌, ltb, length, if◌then◌else◌}
 use Rattle.std.proofs.Math.Option.{Option, none, some}
-use Rattle.word.specs.Word.{if◌then◌else◌, cut}
+use Rattle.word.specs.Word.{cut}
 use Rattle.memory.specs.Memory.{load_n}
 use Rattle.paging.specs.declared.Access.{Access}
 use Rattle.paging.specs.declared.Answer.{Answer}

@@ -1,7 +1,7 @@
 -- Document 01, "Addresses" and "The table reader", and document 02, item 4: translation, in the machine with the page buffer and in the table reader.
-use Rattle.std.specs.Prelude.{ℕ, ◌+◌, ◌*◌, ◌/◌, ◌%◌, Bool, true, false, List, [], ◌∷◌, ◌++◌, length, ltb}
+use Rattle.std.specs.Prelude.{ℕ, ◌+◌, ◌*◌, ◌/◌, ◌%◌, Bool, true, false, List, [], ◌∷◌, ◌++◌, length, ltb, if◌then◌else◌}
 use Rattle.std.proofs.Math.Option.{Option, none, some}
-use Rattle.word.specs.Word.{if◌then◌else◌, cut}
+use Rattle.word.specs.Word.{cut}
 use Rattle.paging.specs.declared.Access.{Access}
 use Rattle.paging.specs.declared.Cause.{Cause}
 use Rattle.paging.specs.declared.Cause.TheVariants.{AddressBeyondMemory}

@@ -1,6 +1,6 @@
 -- Document 01, "Addresses", and document 02, item 4: the page table walk, which names the cause of a fault. Its stages stand in the order of the sentences; each takes the outcome of its test first.
-use Rattle.std.specs.Prelude.{ℕ, ◌+◌, ◌*◌, ◌/◌, ◌%◌, ◌-◌, Bool, true, false, not, ◌&&◌, ◌||◌, List, [], ◌∷◌, ◌++◌, length, get_or, set, ltb, eqb}
-use Rattle.word.specs.Word.{if◌then◌else◌, cut}
+use Rattle.std.specs.Prelude.{ℕ, ◌+◌, ◌*◌, ◌/◌, ◌%◌, ◌-◌, Bool, true, false, not, ◌&&◌, ◌||◌, List, [], ◌∷◌, ◌++◌, length, get_or, set, ltb, eqb, if◌then◌else◌}
+use Rattle.word.specs.Word.{cut}
 use Rattle.memory.specs.Memory.{load_n}
 use Rattle.paging.specs.declared.Access.{Access}
 use Rattle.paging.specs.declared.Access.TheVariants.{Fetch, Read, Write}

@@ -1,4 +1,5 @@
 -- Document 01, "Worked lines": the two lines are all: the run of an accepted load is never refused.
+use Rattle.std.proofs.Common.{if◌then◌else◌}
 use Prim.Native.Nat.{ℕ, ◌%◌, ◌<◌, ◌≤◌}
 use mathlib.Core.Bool.{Bool, true}
 use mathlib.Core.List.{List}
@@ -6,7 +7,6 @@ use mathlib.Core.Path.{◌≡◌, ap}
 use native.Mathlib.Omega.{arith}
 use borrow.Author.Tests.{eq-eqb, lt-ltb, le-leb}
 use lib.ListN.{length, length-append, length-drop, length-replicate}
-use Rattle.word.specs.Word.{if◌then◌else◌}
 use Rattle.paging.specs.Buffer.{buffer_ok, entries_ok}
 use Rattle.executable.specs.declared.LoadAnswer.TheVariants.{Accepted}
 use Rattle.executable.specs.Executable.{entry_of, body_of, load_answer}

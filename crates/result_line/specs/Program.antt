@@ -1,6 +1,5 @@
 -- Document 01, "Worked lines": what the run program prints of an executable, by the rules of a load and a run.
-use Rattle.std.specs.Prelude.{ℕ, List, [], eqb, replicate}
-use Rattle.word.specs.Word.{if◌then◌else◌}
+use Rattle.std.specs.Prelude.{ℕ, List, [], eqb, replicate, if◌then◌else◌}
 use Rattle.paging.specs.declared.Entry.{Entry}
 use Rattle.paging.specs.Translate.{buffered}
 use Rattle.executable.specs.Executable.{load_number}

@@ -1,9 +1,9 @@
 -- Document 02, items 1 and 4: the pending interrupts, vadr and the cause, which no privileged instruction that only computes changes, nor RTI where it returns.
+use Rattle.std.proofs.Common.{if◌then◌else◌}
 use Prim.Native.Nat.{ℕ}
 use mathlib.Core.Bool.{Bool, true, false}
 use mathlib.Core.Path.{◌≡◌, refl}
 use lib.Dec.{eqb}
-use Rattle.word.specs.Word.{if◌then◌else◌}
 use Rattle.decode.specs.declared.PlainOp.{PlainOp}
 use Rattle.decode.specs.declared.PlainOp.TheVariants.{Halt, Cli, Sti, Bin, Ssp, Ivec, Time, Lvad, Lusp, Susp, Msiz, Idle}
 use Rattle.paging.specs.TrapCode.{USER}

@@ -1,9 +1,9 @@
 -- What holds of every leaf of a tree, whatever the replies.
 
+use Rattle.std.proofs.Common.{if◌then◌else◌}
 use mathlib.Core.Bool.{Bool, true, false}
 use mathlib.Core.List.{List}
 use Prim.Native.Nat.{ℕ}
-use Rattle.word.specs.Word.{if◌then◌else◌}
 use Rattle.paging.specs.declared.Space.{Space}
 use Rattle.paging.specs.Translate.{Translator}
 use Rattle.rules.specs.Tree.{Ask, Reply, Tree, ask, done, bind, Grant, answered, interpret}

@@ -1,10 +1,10 @@
 -- Document 01, "Numbers returned": runs that make no step: "A refused run returns the record given and zero steps; memory and console keep their bytes"; one that
 -- "starts stopped, or has budget 0, is accepted with zero steps and no change". Of each machine.
+use Rattle.std.proofs.Common.{if◌then◌else◌}
 use Prim.Native.Nat.{ℕ}
 use mathlib.Core.Path.{◌≡◌, refl}
 use mathlib.Core.Bool.{Bool, true, false}
 use mathlib.Core.List.{List, []}
-use Rattle.word.specs.Word.{if◌then◌else◌}
 use Rattle.paging.specs.Translate.{Translator}
 use Rattle.rules.specs.declared.Key.{Key}
 use Rattle.rules.specs.Record.{is_running}

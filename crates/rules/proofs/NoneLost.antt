@@ -1,10 +1,10 @@
 -- Document 02, item 1: an interrupt that is pending where a run starts is delivered in the run, or pending where it ends. So none is lost over any list of runs,
 -- and one whose event happens in a step is pending after it, or delivered in it (`event_sets`, `pending_after`).
+use Rattle.std.proofs.Common.{if◌then◌else◌}
 use Prim.Native.Nat.{ℕ, zero, suc}
 use mathlib.Core.Bool.{Bool, true, false, ◌||◌, or-true}
 use mathlib.Core.List.{List, [], ◌∷◌}
 use mathlib.Core.Path.{◌≡◌, ap, ◌∙◌}
-use Rattle.word.specs.Word.{if◌then◌else◌}
 use Rattle.paging.specs.Translate.{Translator}
 use Rattle.rules.specs.declared.Cpu.{Cpu}
 use Rattle.rules.specs.declared.Interrupt.{Interrupt}

@@ -1,7 +1,7 @@
 -- Document 02, item 7: "the old mode keeps document 01's table": in the old mode an instruction's end by that table is its end.
+use Rattle.std.proofs.Common.{if◌then◌else◌}
 use mathlib.Core.Path.{◌≡◌, refl}
 use mathlib.Core.Bool.{Bool, true, false, true≢false}
-use Rattle.word.specs.Word.{if◌then◌else◌}
 use Rattle.floating_decode.specs.Opcodes.{floating_decode_of}
 use Rattle.rules.specs.declared.Cpu.{Cpu}
 use Rattle.rules.specs.Tree.{done}

@@ -1,12 +1,12 @@
 -- Document 02, item 1, for any translator, so for both machines: an event sets its mark (`event_sets`); nothing but its own delivery clears a mark (`pending_after`);
 -- in a step with iena = 1 the first marked interrupt, key before timer, is delivered, or the machine stops with 3 (`key_delivered`, `timer_delivered`).
+use Rattle.std.proofs.Common.{if◌then◌else◌}
 use Prim.Native.Nat.{ℕ, ◌+◌}
 use mathlib.Core.Bool.{Bool, true, false, ◌||◌}
 use mathlib.Core.List.{List, [], ◌++◌}
 use mathlib.Core.Path.{◌≡◌, refl, sym, ap, ◌∙◌, subst}
 use lib.Dec.{eqb}
 use lib.ListN.{length}
-use Rattle.word.specs.Word.{if◌then◌else◌}
 use Rattle.paging.specs.Translate.{Translator}
 use Rattle.rules.specs.declared.Clock.{Clock}
 use Rattle.rules.specs.declared.Cpu.{Cpu}

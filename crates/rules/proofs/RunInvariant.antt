@@ -1,8 +1,8 @@
 -- One induction over the steps of a run, with the invariant open: I says something of the events so far and of the state. If each step keeps it, so does every run.
+use Rattle.std.proofs.Common.{if◌then◌else◌}
 use Prim.Native.Nat.{ℕ, zero, suc}
 use mathlib.Core.Bool.{Bool, true, false}
 use mathlib.Core.List.{List, [], ◌∷◌, ◌++◌, append_assoc, append-nil}
-use Rattle.word.specs.Word.{if◌then◌else◌}
 use Rattle.paging.specs.Event.{Event}
 use Rattle.paging.specs.Translate.{Translator}
 use Rattle.rules.specs.declared.Key.{Key}

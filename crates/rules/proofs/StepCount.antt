@@ -1,11 +1,11 @@
 -- Document 01, "Numbers returned": "the steps reported equal the growth of the step count", in each machine.
+use Rattle.std.proofs.Common.{if◌then◌else◌}
 use Prim.Native.Nat.{ℕ, zero, suc, ◌+◌}
 use mathlib.Core.Path.{◌≡◌, refl}
 use mathlib.Core.Bool.{Bool, true, false}
 use mathlib.Core.List.{List, [], ◌∷◌}
 use native.Mathlib.Omega.{arith}
 use lib.ListN.{length}
-use Rattle.word.specs.Word.{if◌then◌else◌}
 use Rattle.paging.specs.Translate.{Translator}
 use Rattle.rules.specs.declared.Key.{Key}
 use Rattle.rules.specs.Record.{is_running}

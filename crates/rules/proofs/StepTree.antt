@@ -1,11 +1,11 @@
 -- One induction over a step's tree, with the predicate open: T says something of a tree, G of a record. Given what holds of each shape of tree (`Shapes`), T holds
 -- of all that a step can come to from a record with G. A claim on every step answers the shapes, and no case for an instruction.
+use Rattle.std.proofs.Common.{if◌then◌else◌}
 use Prim.Native.Nat.{ℕ}
 use mathlib.Core.Path.{◌≡◌, refl}
 use mathlib.Core.Bool.{Bool, true, false}
 use mathlib.Core.List.{List}
 use lib.Dec.{ltb}
-use Rattle.word.specs.Word.{if◌then◌else◌}
 use Rattle.decode.specs.declared.PlainOp.{PlainOp}
 use Rattle.decode.specs.declared.SysOp.{SysOp}
 use Rattle.decode.specs.declared.SysOp.TheVariants.{Plain, Rti, Bout, Pdir, Spag}

@@ -1,11 +1,11 @@
 -- Document 02, item 6: a machine that counts its walks comes to what the same machine comes to without the counter, and the counter has the walks among all
 -- events. Of any translator.
+use Rattle.std.proofs.Common.{if◌then◌else◌}
 use Prim.Native.Nat.{ℕ, zero, suc}
 use mathlib.Core.Path.{◌≡◌, refl, ap, ◌∙◌}
 use mathlib.Core.Bool.{Bool, true, false}
 use mathlib.Core.List.{List, [], ◌∷◌, ◌++◌}
 use lib.ListN.{length}
-use Rattle.word.specs.Word.{if◌then◌else◌}
 use Rattle.paging.specs.declared.Answer.{Answer}
 use Rattle.paging.specs.declared.Answer.TheVariants.{At, Denied}
 use Rattle.paging.specs.declared.Space.{Space}

@@ -1,7 +1,7 @@
 -- Document 01, "Opcodes": arithmetic "together with where its second operand comes from", comparisons and conditions.
-use Rattle.std.specs.Prelude.{ℕ, ◌/◌, ◌%◌, Bool, true, false, not, ◌&&◌, eqb, ltb}
+use Rattle.std.specs.Prelude.{ℕ, ◌/◌, ◌%◌, Bool, true, false, not, ◌&&◌, eqb, ltb, if◌then◌else◌}
 use Rattle.std.specs.Int.Bits.{bit_and, bit_or, bit_xor}
-use Rattle.word.specs.Word.{if◌then◌else◌, sum, difference, product, quotient, remainder, shift_left, shift_right, shift_right_unsigned, shift_count, less_signed}
+use Rattle.word.specs.Word.{sum, difference, product, quotient, remainder, shift_left, shift_right, shift_right_unsigned, shift_count, less_signed}
 use Rattle.decode.specs.declared.AluOp.{AluOp}
 use Rattle.decode.specs.declared.AluOp.TheVariants.{Add, Sub, Mul, Div, Dvu, Mod, Mdu, And, Or, Xor, Shl, Shr, Sru}
 use Rattle.decode.specs.declared.Test.{Test}

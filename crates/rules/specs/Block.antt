@@ -1,6 +1,6 @@
 -- Document 01, "Opcodes": "Block opcodes do one byte a step". pc has moved 4 on already.
-use Rattle.std.specs.Prelude.{ℕ, ◌%◌, eqb}
-use Rattle.word.specs.Word.{if◌then◌else◌, sum, difference}
+use Rattle.std.specs.Prelude.{ℕ, ◌%◌, eqb, if◌then◌else◌}
+use Rattle.word.specs.Word.{sum, difference}
 use Rattle.decode.specs.declared.BlockOp.{BlockOp}
 use Rattle.decode.specs.declared.BlockOp.TheVariants.{Mcpy, Mcmp, Mchr, Mset}
 use Rattle.rules.specs.declared.Regs.{Regs}

@@ -1,6 +1,5 @@
 -- Document 01, "One step", rules 1 to 3, and document 02, item 1: the step count, keys, the timer; the marks of their events, and what is due.
-use Rattle.std.specs.Prelude.{ℕ, ◌+◌, Bool, true, false, not, ◌&&◌, List, length, get_or, eqb, ltb, leb}
-use Rattle.word.specs.Word.{if◌then◌else◌}
+use Rattle.std.specs.Prelude.{ℕ, ◌+◌, Bool, true, false, not, ◌&&◌, List, length, get_or, eqb, ltb, leb, if◌then◌else◌}
 use Rattle.paging.specs.TrapCode.{FTIMER, FKEYBD}
 use Rattle.rules.specs.declared.Clock.{Clock}
 use Rattle.rules.specs.declared.Cpu.{Cpu}

@@ -1,6 +1,6 @@
 -- Document 01, "Opcodes": jumps, calls and returns. pc has moved 4 on already.
-use Rattle.std.specs.Prelude.{ℕ, ◌/◌, ◌≡◌, refl, Bool}
-use Rattle.word.specs.Word.{if◌then◌else◌, sum}
+use Rattle.std.specs.Prelude.{ℕ, ◌/◌, ◌≡◌, refl, Bool, if◌then◌else◌}
+use Rattle.word.specs.Word.{sum}
 use Rattle.decode.specs.Target.{target_from, target_of}
 use Rattle.rules.specs.declared.Regs.{Regs}
 use Rattle.rules.specs.Record.{with_pc, set_sp, set_pc}

@@ -1,7 +1,6 @@
 -- Document 01, "The record and the loaded program": the record as one list of numbers, in the order of its first sentences, with document 02's marks and cause in the
 -- places that its item 5 gives them, after the flags and after the stop reason. Keys taken and console bytes written stand beside the list, and the page buffer is no part of it.
-use Rattle.std.specs.Prelude.{ℕ, ◌%◌, ◌^◌, Bool, List, [], ◌∷◌, eqb, get_or}
-use Rattle.word.specs.Word.{if◌then◌else◌}
+use Rattle.std.specs.Prelude.{ℕ, ◌%◌, ◌^◌, Bool, List, [], ◌∷◌, eqb, get_or, if◌then◌else◌}
 use Rattle.paging.specs.declared.Cause.TheVariants.{AddressBeyondMemory, DirectoryAbsent, DirectoryBeyondMemory, TableAbsent, NoUserRight, NoWriteRight, FrameBeyondMemory}
 use Rattle.rules.specs.declared.Stop.{Stop}
 use Rattle.rules.specs.declared.Stop.TheVariants.{Running, Halted, Masked, NoFrame}

@@ -1,6 +1,5 @@
 -- Document 01, "Numbers returned": a run's refusals, and a run.
-use Rattle.std.specs.Prelude.{ℕ, zero, suc, ◌%◌, ◌^◌, Bool, true, false, ◌&&◌, List, [], ◌∷◌, length, eqb, ltb, leb}
-use Rattle.word.specs.Word.{if◌then◌else◌}
+use Rattle.std.specs.Prelude.{ℕ, zero, suc, ◌%◌, ◌^◌, Bool, true, false, ◌&&◌, List, [], ◌∷◌, length, eqb, ltb, leb, if◌then◌else◌}
 use Rattle.memory.specs.Memory.{size_ok}
 use Rattle.paging.specs.Translate.{Translator}
 use Rattle.rules.specs.declared.Cpu.{Cpu}

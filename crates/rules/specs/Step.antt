@@ -1,6 +1,5 @@
 -- Document 01, "One step", and document 02, items 1 and 7: a step of the machine with the page buffer and of the table reader, by one rule.
-use Rattle.std.specs.Prelude.{ℕ, ◌+◌, false, List, [], ◌∷◌, ◌++◌, length, set}
-use Rattle.word.specs.Word.{if◌then◌else◌}
+use Rattle.std.specs.Prelude.{ℕ, ◌+◌, false, List, [], ◌∷◌, ◌++◌, length, set, if◌then◌else◌}
 use Rattle.paging.specs.declared.Space.{Space}
 use Rattle.floating_decode.specs.Opcodes.{floating_decode_of}
 use Rattle.paging.specs.TrapCode.{FINST}

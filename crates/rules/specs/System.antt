@@ -1,6 +1,6 @@
 -- Document 01, "Opcodes", the privileged instructions, and "Traps", RTI. Where a definition does not say otherwise, c is the record before the fetch.
-use Rattle.std.specs.Prelude.{ℕ, ◌+◌, ◌%◌, Bool, true, false, not, [], eqb, ltb}
-use Rattle.word.specs.Word.{if◌then◌else◌, sum, cut}
+use Rattle.std.specs.Prelude.{ℕ, ◌+◌, ◌%◌, Bool, true, false, not, [], eqb, ltb, if◌then◌else◌}
+use Rattle.word.specs.Word.{sum, cut}
 use Rattle.decode.specs.declared.PlainOp.{PlainOp}
 use Rattle.decode.specs.declared.PlainOp.TheVariants.{Halt, Cli, Sti, Bin, Ssp, Ivec, Time, Lvad, Lusp, Susp, Msiz, Idle}
 use Rattle.decode.specs.declared.SysOp.{SysOp}

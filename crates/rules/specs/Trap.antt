@@ -1,7 +1,7 @@
 -- Document 01, "Traps", and document 02, items 1 and 4: delivery, and the stops. c is the record before the fetch or delivery: its count is raised, and a
 -- denied access has set vadr and the cause.
-use Rattle.std.specs.Prelude.{ℕ, false, List, [], ◌∷◌}
-use Rattle.word.specs.Word.{if◌then◌else◌, sum, difference}
+use Rattle.std.specs.Prelude.{ℕ, false, List, [], ◌∷◌, if◌then◌else◌}
+use Rattle.word.specs.Word.{sum, difference}
 use Rattle.paging.specs.declared.Space.{Space}
 use Rattle.paging.specs.declared.Fault.{Fault}
 use Rattle.paging.specs.TrapCode.{USER}

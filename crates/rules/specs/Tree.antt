@@ -1,8 +1,7 @@
 -- A step as a tree of accesses: `ask` for one and go on with the reply, or be `done`. Both machines interpret the same trees.
 -- All stores stand in the leaf, and name no address: the values go, in order, through the latest granted writes. So nothing is translated after
 -- a store, a faulting instruction changes no byte, and what is stored was translated for writing.
-use Rattle.std.specs.Prelude.{ℕ, Bool, false, List, [], ◌∷◌, ◌++◌}
-use Rattle.word.specs.Word.{if◌then◌else◌}
+use Rattle.std.specs.Prelude.{ℕ, Bool, false, List, [], ◌∷◌, ◌++◌, if◌then◌else◌}
 use Rattle.memory.specs.Memory.{load_n, store_n}
 use Rattle.paging.specs.declared.Access.{Access}
 use Rattle.paging.specs.declared.Access.TheVariants.{Write}

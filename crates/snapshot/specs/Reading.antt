@@ -1,7 +1,6 @@
 -- Document 02, item 5: reading. "Saving and reading back gives the same machine, save that keys taken .. starts again at 0"; "on reading later console bytes stay";
 -- "A refused read gives an all-zero record; a refused read .. leaves memory, console and file".
-use Rattle.std.specs.Prelude.{ℕ, Bool, ◌&&◌, List, ◌++◌, eqb, length, drop}
-use Rattle.word.specs.Word.{if◌then◌else◌}
+use Rattle.std.specs.Prelude.{ℕ, Bool, ◌&&◌, List, ◌++◌, eqb, length, drop, if◌then◌else◌}
 use Rattle.memory.specs.Memory.{size_ok}
 use Rattle.rules.specs.declared.Machine.{Machine}
 use Rattle.rules.specs.Load.{zero_cpu, empty_machine}

@@ -1,6 +1,5 @@
 -- Document 02, item 5: saving. "Saving answers the length, 0 when refused; later file bytes .. stay"; "a refused .. save leaves .. file".
-use Rattle.std.specs.Prelude.{ℕ, ◌^◌, Bool, List, ◌++◌, eqb, leb, ltb, length, drop}
-use Rattle.word.specs.Word.{if◌then◌else◌}
+use Rattle.std.specs.Prelude.{ℕ, ◌^◌, Bool, List, ◌++◌, eqb, leb, ltb, length, drop, if◌then◌else◌}
 use Rattle.memory.specs.Memory.{size_ok}
 use Rattle.paging.specs.Buffer.{buffer_ok}
 use Rattle.rules.specs.declared.Machine.{Machine}

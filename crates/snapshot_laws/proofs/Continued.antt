@@ -1,5 +1,6 @@
 -- Document 02, item 5: runs before a save and after a read: a machine that a run has left can be saved; and "A machine saved on the barge should go on in the
 -- office": a run in two halves with a file between them is the whole run.
+use Rattle.std.proofs.Common.{if◌then◌else◌}
 use Prim.Native.Nat.{ℕ, ◌+◌, ◌^◌, ◌≤◌}
 use native.Mathlib.Omega.{arith}
 use mathlib.Core.Bool.{Bool, true}
@@ -8,7 +9,6 @@ use mathlib.Core.Path.{◌≡◌, refl, sym, ◌∙◌, ap}
 use borrow.Author.Tests.{leb-true, le-leb, lt-ltb}
 use lib.Dec.{leb, ltb}
 use lib.ListN.{length}
-use Rattle.word.specs.Word.{if◌then◌else◌}
 use Rattle.word.proofs.BoolLaws.{both}
 use Rattle.memory.specs.Memory.{size_ok}
 use Rattle.paging.specs.declared.Entry.{Entry}

@@ -1,5 +1,6 @@
 -- Document 02, item 5: runs of a machine that was read: none refuses it by what the file holds; a machine that has taken no keys goes on as if it had not been
 -- saved; and demand 3, where no entries were saved.
+use Rattle.std.proofs.Common.{if◌then◌else◌}
 use Prim.Native.Nat.{ℕ, ◌-◌, ◌≤◌}
 use native.Mathlib.Omega.{arith}
 use mathlib.Core.Bool.{Bool, true}
@@ -8,7 +9,6 @@ use mathlib.Core.Path.{◌≡◌, sym, ◌∙◌, ap, subst}
 use borrow.Author.Tests.{le-leb}
 use lib.ListN.{length, take, drop, replicate, length-append, take-append-drop}
 use lib.Seq.{take_at}
-use Rattle.word.specs.Word.{if◌then◌else◌}
 use Rattle.memory.specs.Memory.{size_ok}
 use Rattle.paging.specs.declared.Entry.{Entry}
 use Rattle.paging.specs.Translate.{buffered, reader}

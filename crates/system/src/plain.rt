@@ -1,6 +1,6 @@
 // Document 01, "Opcodes": the privileged instructions that change the record and nothing else. c has pc moved on.
-ghost use Rattle.std.specs.Prelude.{◌≡◌, true, false, eqb};
-ghost use Rattle.word.specs.Word.{if◌then◌else◌, cut};
+ghost use Rattle.std.specs.Prelude.{◌≡◌, true, false, eqb, if◌then◌else◌};
+ghost use Rattle.word.specs.Word.{cut};
 ghost use Rattle.rules.specs.Arithmetic.{flag};
 ghost use Rattle.rules.specs.System.{computed as computed_of};
 ghost use Rattle.rules.specs.Record.{put_a, with_system, with_clock, with_iena, with_ksp, with_usp, with_ivec, with_waiting, with_kbchar, with_timeout, with_space};

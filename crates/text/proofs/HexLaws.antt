@@ -1,4 +1,5 @@
 -- Document 02, item 2: hexadecimal digits, over their number: a number's digits in two parts, those of a part of a line, and that the digits written read back.
+use Rattle.std.proofs.Common.{if◌then◌else◌}
 use Prim.Native.Nat.{ℕ, zero, suc, ◌+◌, ◌-◌, ◌*◌, ◌/◌, ◌%◌, ◌^◌, ◌<◌, ◌≤◌}
 use mathlib.Core.Bool.{Bool, true, false, ◌&&◌}
 use mathlib.Core.List.{List, [], ◌∷◌, ◌++◌, append_assoc, append-nil}
@@ -9,7 +10,6 @@ use borrow.Author.Tests.{ltb-true, ltb-false, leb-true, lt-ltb, le-ltb, le-leb}
 use lib.Dec.{ltb, leb}
 use lib.ListN.{length, get_or, length-append}
 use lib.Seq.{append_snoc, get_or-append_seam}
-use Rattle.word.specs.Word.{if◌then◌else◌}
 use Rattle.word.proofs.BoolLaws.{both}
 use Rattle.text.specs.Hex.{hex_digit, hex_digits, hex_number, hex_value}
 use Rattle.text.specs.Written.{Written}

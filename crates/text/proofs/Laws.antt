@@ -1,4 +1,5 @@
 -- What holds of a number's digits: at most 20, one for each step of the recursion; and of texts written one after another.
+use Rattle.std.proofs.Common.{if◌then◌else◌}
 use Prim.Native.Nat.{ℕ, zero, suc, ◌-◌, ◌/◌, ◌%◌, ◌^◌, ◌<◌, ◌≤◌}
 use mathlib.Core.Bool.{Bool, true, false}
 use mathlib.Core.List.{List, [], ◌∷◌, ◌++◌, append_assoc}
@@ -9,7 +10,6 @@ use borrow.Author.Tests.{ltb-true, ltb-false, lt-ltb, le-ltb}
 use lib.Dec.{ltb}
 use lib.ListN.{length, take, drop, length-append, length-take}
 use lib.Seq.{drop-drop}
-use Rattle.word.specs.Word.{if◌then◌else◌}
 use Rattle.text.specs.Digits.{digit_of, digits, decimal_of}
 use Rattle.text.specs.Signed.{signed_of}
 use Rattle.text.specs.Written.{Written}

@@ -1,4 +1,5 @@
 -- Document 01, "Worked lines": a number's digits read back give the number, and the first is 0 only for 0.
+use Rattle.std.proofs.Common.{if◌then◌else◌}
 use Prim.Native.Nat.{ℕ, zero, suc, ◌+◌, ◌-◌, ◌*◌, ◌/◌, ◌%◌, ◌^◌, ◌<◌, ◌≤◌}
 use mathlib.Core.Bool.{Bool, true, false}
 use mathlib.Core.List.{List, [], ◌∷◌, ◌++◌}
@@ -7,7 +8,6 @@ use native.Mathlib.Omega.{arith}
 use borrow.Author.Tests.{ltb-false}
 use lib.Dec.{ltb}
 use lib.ListN.{get_or, get_or-append}
-use Rattle.word.specs.Word.{if◌then◌else◌}
 use Rattle.text.specs.Digits.{digit_of, digits, decimal_of}
 use Rattle.text.proofs.Laws.{some_digit}
 

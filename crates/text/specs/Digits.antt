@@ -1,6 +1,5 @@
 -- Document 01, "Worked lines": "Numbers are in decimal, most significant digit first, without leading zeros". A text is its list of bytes.
-use Rattle.std.specs.Prelude.{ℕ, zero, suc, ◌+◌, ◌/◌, ◌%◌, List, [], ◌∷◌, ◌++◌, ltb}
-use Rattle.word.specs.Word.{if◌then◌else◌}
+use Rattle.std.specs.Prelude.{ℕ, zero, suc, ◌+◌, ◌/◌, ◌%◌, List, [], ◌∷◌, ◌++◌, ltb, if◌then◌else◌}
 
 -- the byte of a digit; that of 0 is 48
 abbrev pub digit_of : ℕ → ℕ

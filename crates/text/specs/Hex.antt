@@ -1,6 +1,5 @@
 -- Document 02, item 2: a word "as eight lower-case hexadecimal digits", written and read.
-use Rattle.std.specs.Prelude.{ℕ, zero, suc, ◌+◌, ◌-◌, ◌*◌, ◌/◌, ◌%◌, ◌&&◌, List, [], ◌∷◌, ◌++◌, ltb, leb, get_or}
-use Rattle.word.specs.Word.{if◌then◌else◌}
+use Rattle.std.specs.Prelude.{ℕ, zero, suc, ◌+◌, ◌-◌, ◌*◌, ◌/◌, ◌%◌, ◌&&◌, List, [], ◌∷◌, ◌++◌, ltb, leb, get_or, if◌then◌else◌}
 
 -- the byte of a digit; that of 0 is 48, that of 10 is `a`, 97
 abbrev pub hex_digit : ℕ → ℕ

@@ -1,6 +1,5 @@
 -- Document 02, item 2: "signed operand in decimal".
-use Rattle.std.specs.Prelude.{ℕ, ◌-◌, ◌^◌, List, ◌∷◌, ltb}
-use Rattle.word.specs.Word.{if◌then◌else◌}
+use Rattle.std.specs.Prelude.{ℕ, ◌-◌, ◌^◌, List, ◌∷◌, ltb, if◌then◌else◌}
 use Rattle.text.specs.Digits.{decimal_of}
 
 -- a word as a signed number; the byte of the minus sign is 45

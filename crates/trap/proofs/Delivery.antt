@@ -1,10 +1,11 @@
 -- Document 01, "Traps", and document 02, item 1: a delivery, a stop and a fault end as their trees say. One law for each `return`.
+use Rattle.std.proofs.Common.{if◌then◌else◌}
 use Prim.Native.Nat.{ℕ}
 use mathlib.Core.Bool.{true, false}
 use mathlib.Core.List.{List}
 use mathlib.Core.Path.{◌≡◌, refl, sym, subst}
 use lib.ListN.{length}
-use Rattle.word.specs.Word.{if◌then◌else◌, difference}
+use Rattle.word.specs.Word.{difference}
 use Rattle.memory.specs.Memory.{store_n}
 use Rattle.paging.specs.declared.Answer.{Answer}
 use Rattle.paging.specs.declared.Answer.TheVariants.{At, Denied}

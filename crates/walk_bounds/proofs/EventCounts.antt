@@ -1,4 +1,5 @@
 -- Document 02, item 6: what the second bound counts, on short lists of events, and over events one after another.
+use Rattle.std.proofs.Common.{if◌then◌else◌}
 use Prim.Native.Nat.{ℕ, suc, ◌+◌, ◌≤◌}
 use mathlib.Core.Path.{◌≡◌, refl}
 use mathlib.Core.Bool.{Bool, true, false, not, cond, ◌||◌}
@@ -6,7 +7,6 @@ use mathlib.Core.List.{List, [], ◌∷◌, ◌++◌}
 use native.Mathlib.Omega.{arith}
 use lib.ListN.{length}
 use lib.Dec.{eqb}
-use Rattle.word.specs.Word.{if◌then◌else◌}
 use Rattle.paging.specs.Event.{Event, walked, kept, emptied, marked, stored, delivered}
 use Rattle.paging.specs.Buffer.{place}
 use Rattle.walk_bounds.specs.Bounds.{entered, entries_kept, kept_before_walk, faulted_in, space_set}

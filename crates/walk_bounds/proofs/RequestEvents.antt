@@ -1,12 +1,12 @@
 -- Document 02, item 6: the events of one request of the machine with the page buffer. It makes no walk, or one, which ends in a fault exactly where the access is
 -- denied with paging on, and otherwise keeps one entry.
+use Rattle.std.proofs.Common.{if◌then◌else◌}
 use Prim.Native.Nat.{ℕ, suc, ◌+◌}
 use mathlib.Core.Path.{◌≡◌, refl, ◌∙◌}
 use mathlib.Core.Bool.{Bool, true, false}
 use mathlib.Core.List.{List, [], ◌++◌}
 use mathlib.Core.Option.{Option, none, some}
 use native.Mathlib.Omega.{arith}
-use Rattle.word.specs.Word.{if◌then◌else◌}
 use Rattle.paging.specs.declared.Answer.{Answer}
 use Rattle.paging.specs.declared.Answer.TheVariants.{At, Denied}
 use Rattle.paging.specs.declared.Entry.{Entry}

@@ -1,10 +1,10 @@
 -- Document 02, item 6: the events of a run of the machine with the page buffer. Each walk kept one entry or ended in a fault; the address space was set exactly
 -- where PDIR or SPAG took effect.
+use Rattle.std.proofs.Common.{if◌then◌else◌}
 use Prim.Native.Nat.{ℕ, zero, suc, ◌+◌}
 use mathlib.Core.Path.{◌≡◌, refl, ◌∙◌}
 use mathlib.Core.Bool.{Bool, true, false, ◌||◌}
 use mathlib.Core.List.{List, [], ◌∷◌}
-use Rattle.word.specs.Word.{if◌then◌else◌}
 use Rattle.paging.specs.declared.Entry.{Entry}
 use Rattle.paging.specs.Translate.{buffered}
 use Rattle.rules.specs.declared.Key.{Key}

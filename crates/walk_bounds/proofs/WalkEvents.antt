@@ -1,9 +1,9 @@
 -- Document 02, item 6: the events of one walk, counted together with what follows: that tells whether it ended in a fault.
+use Rattle.std.proofs.Common.{if◌then◌else◌}
 use Prim.Native.Nat.{ℕ, suc}
 use mathlib.Core.Path.{◌≡◌, refl}
 use mathlib.Core.Bool.{Bool, false}
 use mathlib.Core.List.{List, ◌++◌}
-use Rattle.word.specs.Word.{if◌then◌else◌}
 use Rattle.paging.specs.declared.Access.{Access}
 use Rattle.paging.specs.Event.{Event}
 use Rattle.paging.specs.Walk.{walk}

@@ -1,9 +1,9 @@
 -- Document 02, item 6, "never more than five in a step": how many translations a tree makes at most, whatever the replies, with a weight of its leaf: what
 -- the rest of a step may still make.
+use Rattle.std.proofs.Common.{if◌then◌else◌}
 use Prim.Native.Nat.{ℕ, ◌+◌, ◌≤◌}
 use mathlib.Core.Bool.{Bool, true, false}
 use native.Mathlib.Omega.{arith}
-use Rattle.word.specs.Word.{if◌then◌else◌}
 use Rattle.rules.specs.Tree.{Ask, access, slots, Reply, Tree, ask, done, bind}
 
 -- the translations of an ask: one for an access, two for the slots of a frame

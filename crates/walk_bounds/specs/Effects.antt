@@ -1,6 +1,5 @@
 -- Document 02, item 6, "a run without PDIR or SPAG": the step in which one took effect. One that faults, or is refused for privilege, empties nothing.
-use Rattle.std.specs.Prelude.{ℕ, zero, suc, Bool, true, false, ◌||◌, List, [], length}
-use Rattle.word.specs.Word.{if◌then◌else◌}
+use Rattle.std.specs.Prelude.{ℕ, zero, suc, Bool, true, false, ◌||◌, List, [], length, if◌then◌else◌}
 use Rattle.paging.specs.Translate.{Translator}
 use Rattle.rules.specs.declared.Key.{Key}
 use Rattle.rules.specs.Record.{is_running}

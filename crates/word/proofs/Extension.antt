@@ -1,4 +1,5 @@
 -- Sign extension, once over the width. Document 01, "Opcodes": "S and C forms extend the sign", "The upper 24 are imm, signed".
+use Rattle.std.proofs.Common.{if◌then◌else◌}
 use Prim.Native.Nat.{ℕ, zero, suc, ◌+◌, ◌*◌, ◌-◌, ◌%◌, ◌^◌, ◌≤◌, ◌<◌}
 use mathlib.Core.Path.{◌≡◌, refl}
 use mathlib.Core.Bool.{Bool, true, false}
@@ -11,7 +12,7 @@ use lib.IntN.{pos, negsuc}
 use mir.Syntax.{w32}
 use mir.Val.{to_z}
 use mir.Facts.{to_z_pos, to_z-neg}
-use Rattle.word.specs.Word.{extend, difference, if◌then◌else◌}
+use Rattle.word.specs.Word.{extend, difference}
 
 -- a number x of n bits
 module _ (n : ℕ) {x : ℕ} where

@@ -1,5 +1,6 @@
 -- Division by magnitudes. Document 02, item 3: "take magnitudes, divide them, put the signs back", and "each answer's magnitude is the
 -- magnitudes' quotient or remainder (2^31 for -2^31)".
+use Rattle.std.proofs.Common.{if◌then◌else◌}
 use Prim.Native.Nat.{ℕ, zero, suc, ◌/◌, ◌%◌, ◌^◌, ◌≤◌, ◌<◌}
 use mathlib.Core.Path.{◌≡◌, refl, ap}
 use mathlib.Core.Bool.{Bool, true, false, not, beq}
@@ -10,7 +11,7 @@ use lib.Signed.{non_neg, quot_z, rem_z, nat_abs-le}
 use mir.Syntax.{w32}
 use mir.Val.{to_z, of_z}
 use mir.Facts.{to_z_pos, to_z-neg, sfits_to_z}
-use Rattle.word.specs.Word.{quotient, remainder, if◌then◌else◌}
+use Rattle.word.specs.Word.{quotient, remainder}
 use Rattle.word.specs.Magnitude.{magnitude, negative, with_sign}
 use Rattle.word.proofs.Division.{not_zero}
 

@@ -1,4 +1,5 @@
 -- Sign and magnitude as the code finds them: by the sign bit, and by a difference from 0. Document 02, item 3.
+use Rattle.std.proofs.Common.{if◌then◌else◌}
 use Prim.Native.Nat.{ℕ, zero, suc, ◌-◌, ◌%◌, ◌^◌, ◌≤◌, ◌<◌}
 use mathlib.Core.Path.{◌≡◌, refl, sym, ap, ◌∙◌}
 use mathlib.Core.Bool.{Bool, true, false}
@@ -9,7 +10,7 @@ use lib.Dec.{leb}
 use lib.IntN.{nat_abs}
 use mir.Syntax.{w32}
 use mir.Facts.{to_z_pos, to_z-neg}
-use Rattle.word.specs.Word.{difference, if◌then◌else◌}
+use Rattle.word.specs.Word.{difference}
 use Rattle.word.specs.Magnitude.{magnitude, negative, with_sign}
 
 -- a word from 2^31 on is negative

@@ -1,9 +1,8 @@
 -- Magnitude and sign of a word. Document 02, item 3: "take magnitudes, divide them, put the signs back" and "(2^31 for -2^31)".
-use Rattle.std.specs.Prelude.{ℕ, Bool, not, pos, neg_ℤ, nat_abs}
+use Rattle.std.specs.Prelude.{ℕ, Bool, not, pos, neg_ℤ, nat_abs, if◌then◌else◌}
 use Rattle.std.specs.Int.Signed.{non_neg}
 use Rattle.std.specs.Int.{w32}
 use Rattle.std.proofs.Common.{to_z, of_z}
-use Rattle.word.specs.Word.{if◌then◌else◌}
 
 -- the magnitude of the signed reading: 7 for -7, 2^31 for -2^31
 unfoldable pub magnitude : ℕ → ℕ

@@ -1,16 +1,9 @@
 -- 32-bit words. Document 01, "What is emulated": "All 32-bit sums, differences and products wrap"; "Opcodes": sign extension, quotient,
 -- remainder and shifts. A word is a number below 2 ^ 32; its signed reading is `to_z w32`, and `of_z w32` gives the word back.
-use Rattle.std.specs.Prelude.{ℕ, ◌+◌, ◌*◌, ◌-◌, ◌/◌, ◌%◌, ◌^◌, Bool, true, false, ltb}
+use Rattle.std.specs.Prelude.{ℕ, ◌+◌, ◌*◌, ◌-◌, ◌/◌, ◌%◌, ◌^◌, Bool, ltb, if◌then◌else◌}
 use Rattle.std.specs.Int.Signed.{quot_z, rem_z, shr_z, lt_z}
 use Rattle.std.specs.Int.{w32}
 use Rattle.std.proofs.Common.{to_z, of_z}
-
--- a choice between two values
-infix 5 if◌then◌else◌
-module _ {ℓ} {A : Type ℓ} where
-  abbrev pub if◌then◌else◌ : Bool → A → A → A
-  if◌then◌else◌ true x y = x
-  if◌then◌else◌ false x y = y
 
 -- the low 32 bits of a sum
 abbrev pub sum : ℕ → ℕ → ℕ

@@ -1,6 +1,5 @@
 -- Document 01, "Numbers returned", edges: a number that a definition gives, and the number that document 01 says.
-use Rattle.std.specs.Prelude.{ℕ, List, [], ◌∷◌, eqb}
-use Rattle.word.specs.Word.{if◌then◌else◌}
+use Rattle.std.specs.Prelude.{ℕ, List, [], ◌∷◌, eqb, MatchBool}
 use Rattle.worked.specs.Line.{Differs}
 
 pub record Edge : Type 0 where
@@ -12,7 +11,7 @@ abbrev pub ◌gives◌ : ℕ → ℕ → Edge
 x gives y = record { found = x; said = y }
 
 abbrev pub Right : Edge → Type 0
-Right e = if eqb e.found e.said then Unit else Differs e.found e.said
+Right e = MatchBool (eqb e.found e.said) Unit (Differs e.found e.said)
 
 -- every edge of a list is right: one proof an edge, so that an error names it
 infixr 10 ◌and◌

@@ -1,7 +1,6 @@
 -- Document 02, item 7: "the old mode keeps document 01's table". All 256 opcode bytes, computed, in each mode: which of them trap FINST. Memory is 64 bytes, with
 -- the instruction at 0 and its frame below sp, 64.
-use Rattle.std.specs.Prelude.{ℕ, zero, suc, ◌+◌, ◌-◌, ◌≡◌, refl, Bool, true, not, ◌&&◌, ◌||◌, List, [], ◌∷◌, eqb, get_or}
-use Rattle.word.specs.Word.{if◌then◌else◌}
+use Rattle.std.specs.Prelude.{ℕ, zero, suc, ◌+◌, ◌-◌, ◌≡◌, refl, Bool, true, not, ◌&&◌, ◌||◌, List, [], ◌∷◌, eqb, get_or, if◌then◌else◌}
 use Rattle.decode.specs.Illegal.{Range, ◌to◌, floating_point, unassigned, size, within}
 use Rattle.paging.specs.TrapCode.{FINST}
 use Rattle.paging.specs.Translate.{buffered}

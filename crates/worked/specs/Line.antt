@@ -1,6 +1,5 @@
 -- Document 01, "Worked lines": how a line is written. It starts from a record and a memory, runs a number of steps, and says what is found then.
-use Rattle.std.specs.Prelude.{ℕ, ◌+◌, ◌*◌, List, [], ◌∷◌, get_or, eqb}
-use Rattle.word.specs.Word.{if◌then◌else◌}
+use Rattle.std.specs.Prelude.{ℕ, ◌+◌, ◌*◌, List, [], ◌∷◌, get_or, eqb, MatchBool}
 use Rattle.paging.specs.Translate.{Translator, buffered, reader}
 use Rattle.rules.specs.declared.Cpu.{Cpu}
 use Rattle.rules.specs.declared.Key.{Key}
@@ -159,7 +158,7 @@ pub data Differs : (found said : ℕ) → Type 0 where
 -- every fact holds
 abbrev pub All : Found → List Fact → Type 0
 All s [] = Unit
-All s (f ∷ fs) = if eqb (f.number s) f.said then All s fs else Differs (f.number s) f.said
+All s (f ∷ fs) = MatchBool (eqb (f.number s) f.said) (All s fs) (Differs (f.number s) f.said)
 
 module _ {B : Type 0} (tr : Translator B) (held : B) where
   -- a line holds in a machine
