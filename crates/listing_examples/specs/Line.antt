@@ -1,5 +1,5 @@
 -- How a computed line is written: the bytes that a definition gives and the text that they must be; or a text, and the number that reading it back must answer.
-use Rattle.std.specs.Prelude.{ℕ, Bool, List, [], ◌∷◌, eqb, if◌then◌else◌}
+use Rattle.std.specs.Prelude.{ℕ, Bool, List, [], ◌∷◌, eqb, if◌then◌else◌, MatchBool}
 use Prim.Native.String.{String}
 use Rattle.text.specs.Ascii.{ascii}
 use Rattle.listing.specs.Stands.{equal}
@@ -19,7 +19,7 @@ line answers number = record { right = eqb (if is_listed line then 0 else 12) nu
 pub data Wrong : Type 0 where
 
 abbrev pub Right : Line → Type 0
-Right l = if l.right then Unit else Wrong
+Right l = MatchBool l.right Unit Wrong
 
 -- all of a list are right: one proof a line, so that an error names it
 infixr 10 ◌and◌
