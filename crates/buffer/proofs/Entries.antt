@@ -1,5 +1,6 @@
 -- Laws of the rules alone: among entries that refusal 3 lets pass, the entry of a page alone decides a hit, and its frame is in memory.
-use Rattle.std.proofs.Common.{◌≡◌, ℕ, zero, suc, ◌/◌, ◌<◌, Bool, true, false, cond, not, ◌&&◌, ◌||◌, eqb, ltb, leb, List, [], ◌∷◌, length, get_or, sym, refl, ◌∙◌, arith, ltb-true, eq-eqb, ne_eqb, eqb-true, if◌then◌else◌}
+use Rattle.std.proofs.Common.{◌≡◌, ℕ, zero, suc, ◌/◌, ◌<◌, Bool, true, false, cond, not, ◌&&◌, ◌||◌, eqb, ltb, leb, List, [], ◌∷◌, length, get_or}
+use Rattle.std.proofs.Common.{sym, refl, ◌∙◌, arith, ltb-true, eq-eqb, ne_eqb, eqb-true, if◌then◌else◌}
 use mathlib.Core.Option.{none, some}
 use borrow.Author.Tests.{not-true}
 use Rattle.paging.specs.declared.Access.{Access}

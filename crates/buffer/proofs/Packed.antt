@@ -1,5 +1,6 @@
 -- A record's slots go into the lent array and back: one law a turn, and what fits its place.
-use Rattle.std.proofs.Common.{◌≡◌, ℕ, zero, suc, ◌+◌, ◌/◌, ◌<◌, ◌≤◌, true, false, not, ltb, List, [], ◌∷◌, map, length, get_or, take, set, sym, ap, ◌∙◌, add-one, arith, length-set, get_or-take, take-suc, get_or-set_same, take-suc-set, ltb-true}
+use Rattle.std.proofs.Common.{◌≡◌, ℕ, zero, suc, ◌+◌, ◌/◌, ◌<◌, ◌≤◌, true, false, not, ltb, List, [], ◌∷◌, map, length, get_or, take, set, sym, ap}
+use Rattle.std.proofs.Common.{◌∙◌, add-one, arith, length-set, get_or-take, take-suc, get_or-set_same, take-suc-set, ltb-true}
 use lib.Seq.{take-set-le}
 use Rattle.paging.specs.declared.Entry.{Entry}
 use Rattle.paging.specs.Buffer.{has, entry_page, entry_ok, entries_ok, buffer_ok}

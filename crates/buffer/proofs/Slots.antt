@@ -1,5 +1,6 @@
 -- The entries held in a lent array: how many, which, and what a store into the array does to them.
-use Rattle.std.proofs.Common.{◌≡◌, ℕ, zero, suc, ◌+◌, ◌<◌, ◌≤◌, List, [], ◌∷◌, ◌++◌, map, length, get_or, take, set, refl, ap, ◌∙◌, add-one, arith, length-set, length-take-le, get_or-set_other, get_or-take, get_or-set_same, take-suc-set}
+use Rattle.std.proofs.Common.{◌≡◌, ℕ, zero, suc, ◌+◌, ◌<◌, ◌≤◌, List, [], ◌∷◌, ◌++◌, map, length, get_or, take, set, refl, ap, ◌∙◌, add-one, arith}
+use Rattle.std.proofs.Common.{length-set, length-take-le, get_or-set_other, get_or-take, get_or-set_same, take-suc-set}
 use lib.ListN.{length-map, get_or-map}
 use lib.Seq.{take-set-lt, take-set-le}
 use Rattle.paging.specs.declared.Entry.{Entry}

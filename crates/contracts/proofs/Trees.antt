@@ -12,7 +12,8 @@ use Rattle.paging.specs.declared.Space.{Space}
 use Rattle.paging.specs.Event.{Event}
 use Rattle.paging.specs.Translate.{Request, Outcome, outcome, Translator}
 use Rattle.mmu.specs.Translates.{Kept, Translates, kept_in, result, seen, translator}
-use Rattle.rules.specs.Tree.{access, slots, Reply, got, denied, Tree, ask, done, bind, Grant, grant, slot, requested, Replied, replied, reply_to, first_slot, second_slot, answered, Ended, after, interpret}
+use Rattle.rules.specs.Tree.{access, slots, Reply, got, denied, Tree, ask, done, bind, Grant, grant, slot, requested, Replied, replied, reply_to}
+use Rattle.rules.specs.Tree.{first_slot, second_slot, answered, Ended, after, interpret}
 
 -- the events of a translation
 abbrev pub events_of : Space → Request → List ℕ → List ℕ → List Event

@@ -1,5 +1,8 @@
 -- A pattern below that of 2^52 is a number below 2^52. From there on it is a whole number, an infinity or a NaN.
-use Rattle.std.proofs.Common.{◌≡◌, ℕ, zero, suc, ◌+◌, ◌-◌, ◌*◌, ◌/◌, ◌%◌, ◌^◌, ◌<◌, ◌≤◌, Bool, true, false, cond, T, eqb, leb, ℤ, pos, sym, refl, ap, ◌∙◌, le_trans, le_of_eq, lt_of_lt_of_le, le-add_right, zero-lt-suc, mul_assoc, div-lt_iff_lt-mul, lt_of_mul-lt-mul_right, mul-le-mul_left, mul-lt-mul_of_pos_right, mul-one, mul_right_comm, mul-div_cancel, arith, lt→ltb, pow_pos, pow_mono, pow-add, shl_lt, ne_eqb}
+use Rattle.std.proofs.Common.{◌≡◌, ℕ, zero, suc, ◌+◌, ◌-◌, ◌*◌, ◌/◌, ◌%◌, ◌^◌, ◌<◌, ◌≤◌, Bool, true, false, cond, T, eqb, leb, ℤ, pos, sym, refl, ap}
+use Rattle.std.proofs.Common.{◌∙◌, le_trans, le_of_eq, lt_of_lt_of_le, le-add_right, zero-lt-suc, mul_assoc, div-lt_iff_lt-mul}
+use Rattle.std.proofs.Common.{lt_of_mul-lt-mul_right, mul-le-mul_left, mul-lt-mul_of_pos_right, mul-one, mul_right_comm, mul-div_cancel, arith}
+use Rattle.std.proofs.Common.{lt→ltb, pow_pos, pow_mono, pow-add, shl_lt, ne_eqb}
 use native.Mathlib.Nat.{eq_of_mul-eq-mul_right}
 use borrow.Author.Tests.{lt-leb, eqb-false}
 use lib.Arith.{lt_of_le-ne}

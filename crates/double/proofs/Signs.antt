@@ -1,5 +1,6 @@
 -- A pattern's sign bit is its value's sign, and nothing else of it: what is below that bit is the pattern of the value without its sign.
-use Rattle.std.proofs.Common.{◌≡◌, ℕ, zero, suc, ◌+◌, ◌-◌, ◌*◌, ◌/◌, ◌%◌, ◌^◌, ◌<◌, Bool, true, false, cond, eqb, ltb, leb, ℤ, sym, refl, ap, ◌∙◌, add_assoc, mod-lt, mod-eq_of_lt, zero-lt-suc, mul-pos, zero-add, arith, pow_pos, leb-false, leb-true}
+use Rattle.std.proofs.Common.{◌≡◌, ℕ, zero, suc, ◌+◌, ◌-◌, ◌*◌, ◌/◌, ◌%◌, ◌^◌, ◌<◌, Bool, true, false, cond, eqb, ltb, leb, ℤ, sym, refl, ap, ◌∙◌}
+use Rattle.std.proofs.Common.{add_assoc, mod-lt, mod-eq_of_lt, zero-lt-suc, mul-pos, zero-add, arith, pow_pos, leb-false, leb-true}
 use native.Mathlib.Nat.{mod-mod_of_dvd, dvd-mul_right}
 use borrow.Author.Tests.{lt-leb}
 use lib.Ieee.{Float, Format, nan, inf, fin, binary64, prec, emax, low, hid, ones, top, odd, units, round, of_fields, of_bits, to_bits}

@@ -1,5 +1,7 @@
 -- Document 02, item 7: FLOR and CEIL, whose zeros keep the operand's sign. The direction is open: the whole number next to a value, away from zero or toward it.
-use Rattle.std.proofs.Common.{◌≡◌, ℕ, ◌+◌, ◌-◌, ◌*◌, ◌%◌, ◌^◌, ◌<◌, ◌≤◌, Bool, true, false, cond, not, ◌&&◌, eqb, ltb, leb, ℤ, pos, sym, refl, ap, ◌∙◌, add-zero, div-add-mod', mul-one, arith, lit≤, le-ltb, lt-ltb, eq-eqb, ne_eqb, eqb-true, leb-false, leb-true, if◌then◌else◌}
+use Rattle.std.proofs.Common.{◌≡◌, ℕ, ◌+◌, ◌-◌, ◌*◌, ◌%◌, ◌^◌, ◌<◌, ◌≤◌, Bool, true, false, cond, not, ◌&&◌, eqb, ltb, leb, ℤ, pos, sym, refl, ap}
+use Rattle.std.proofs.Common.{◌∙◌, add-zero, div-add-mod', mul-one, arith, lit≤, le-ltb, lt-ltb, eq-eqb, ne_eqb, eqb-true, leb-false, leb-true}
+use Rattle.std.proofs.Common.{if◌then◌else◌}
 use native.Mathlib.Nat.{mul-mod_left}
 use borrow.Author.Tests.{eqb-false}
 use lib.Ieee.{Float, nan, inf, fin, binary64, up, down, round, of_int, to_unsigned}

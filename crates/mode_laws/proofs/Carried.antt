@@ -134,7 +134,8 @@ module _ (m : Model) (v : Floats) where
   privileged_carried size console_size (Plain op) old c = ended_carried (computed_carried size op c)
   privileged_carried size console_size Rti old c = asks (read_carried old (λ code. asks (read_carried old (λ pc. ended_carried (returned_carried old code pc)))))
   privileged_carried size console_size Bout old c = carried_if (ltb c.written console_size) (leaf refl) (leaf refl)
-  privileged_carried size console_size Pdir old c = carried_if (ltb c.regs.a size) (leaf refl) (fault_carried old (record { code = FMEM; cause = AddressBeyondMemory; address = c.regs.a }) (next_pc old))
+  privileged_carried size console_size Pdir old c =
+      carried_if (ltb c.regs.a size) (leaf refl) (fault_carried old (record { code = FMEM; cause = AddressBeyondMemory; address = c.regs.a }) (next_pc old))
   privileged_carried size console_size Spag old c = leaf refl
 
   system_carried : (size console_size : ℕ) (op : SysOp) (c : Cpu) → Carried (system_tree size console_size op (in_mode m v c)) (system_tree size console_size op c)

@@ -66,7 +66,9 @@ unfolding privileged_tree
 privileged_within size console_size (Plain op) old c = ends_within
 privileged_within size console_size Rti old c = read_within old (λ code. read_within old (λ pc. ends_within))
 privileged_within size console_size Bout old c = within_if (ltb c.written console_size) ends_within ends_within
-privileged_within size console_size Pdir old c = within_if (ltb c.regs.a size) ends_within (within_more 2 4 (omega arith) (fault_within old (record { code = FMEM; cause = AddressBeyondMemory; address = c.regs.a }) (next_pc old)))
+privileged_within size console_size Pdir old c =
+    within_if (ltb c.regs.a size) ends_within
+    (within_more 2 4 (omega arith) (fault_within old (record { code = FMEM; cause = AddressBeyondMemory; address = c.regs.a }) (next_pc old)))
 privileged_within size console_size Spag old c = ends_within
 
 system_within : (size console_size : ℕ) (op : SysOp) (c : Cpu) → AtMost 4 (system_tree size console_size op c)

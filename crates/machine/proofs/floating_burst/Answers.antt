@@ -49,7 +49,8 @@ shape_of-tlb-in_default-end c =
 pub returns-in_default-end : goal.returns-in_default-end
 returns-in_default-end c =
     let p = c.loop-e.invariant.1.1.1 _ _ (paused_start _ _ _ _ c.instructions-first.auto.mem (c.instructions-first.ensures c.args.c refl refl refl)) in
-    rw c.burst_done-in_default-end.ensures (float_early _ _ _ _ p c.in-Undecoded.is c.requires.doubles_value (rw c.fetched.ensures at c.instruction-d.ensures) (not_ok _ c.in_default-end.in_default-end-own.keys2))
+    rw c.burst_done-in_default-end.ensures
+    (float_early _ _ _ _ p c.in-Undecoded.is c.requires.doubles_value (rw c.fetched.ensures at c.instruction-d.ensures) (not_ok _ c.in_default-end.in_default-end-own.keys2))
 
 pub overflow_add-n : goal.overflow_add-n
 overflow_add-n c =

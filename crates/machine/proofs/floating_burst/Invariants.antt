@@ -11,7 +11,8 @@ use Rattle.machine.proofs.floating_burst.Given as goal
 abbrev pub invariant-loop-e : goal.invariant-loop-e
 invariant-loop-e l = (length l.mem ≡ length l.initial.mem)
     × ((length l.tlb ≡ length l.initial.tlb)
-    × (Good (length l.mem) l.c.space.pdir l.tlb × ((m t : List ℕ) → Paused l.c l.limit m t (bad l.initial.r l.initial.e) l.initial.floats l.initial.mem l.initial.tlb → Paused l.c l.limit m t (bad l.r l.e) l.floats l.mem l.tlb)))
+    × (Good (length l.mem) l.c.space.pdir l.tlb × ((m t : List ℕ) → Paused l.c l.limit m t (bad l.initial.r l.initial.e) l.initial.floats l.initial.mem l.initial.tlb →
+    Paused l.c l.limit m t (bad l.r l.e) l.floats l.mem l.tlb)))
 
 abbrev pub decreases-loop-e : goal.decreases-loop-e
 decreases-loop-e l = l.limit - l.r.count

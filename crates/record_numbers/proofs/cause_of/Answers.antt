@@ -7,7 +7,15 @@ use Rattle.record_numbers.proofs.cause_of.Goals as goal
 pub returns-in_default : goal.returns-in_default
 unfolding cause_of
 returns-in_default c =
-    rw (ne_eqb _ 0 c.in_default.in_default-own.rest.0.0.0.0.0.0.1, ne_eqb _ 1 c.in_default.in_default-own.rest.0.0.0.0.0.1, ne_eqb _ 2 c.in_default.in_default-own.rest.0.0.0.0.1, ne_eqb _ 3 c.in_default.in_default-own.rest.0.0.0.1, ne_eqb _ 4 c.in_default.in_default-own.rest.0.0.1, ne_eqb _ 5 c.in_default.in_default-own.rest.0.1, ne_eqb _ 6 c.in_default.in_default-own.rest.1)
+    rw (
+      ne_eqb _ 0 c.in_default.in_default-own.rest.0.0.0.0.0.0.1,
+      ne_eqb _ 1 c.in_default.in_default-own.rest.0.0.0.0.0.1,
+      ne_eqb _ 2 c.in_default.in_default-own.rest.0.0.0.0.1,
+      ne_eqb _ 3 c.in_default.in_default-own.rest.0.0.0.1,
+      ne_eqb _ 4 c.in_default.in_default-own.rest.0.0.1,
+      ne_eqb _ 5 c.in_default.in_default-own.rest.0.1,
+      ne_eqb _ 6 c.in_default.in_default-own.rest.1,
+    )
 
 pub returns-in-0 : goal.returns-in-0
 unfolding cause_of

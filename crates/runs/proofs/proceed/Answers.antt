@@ -64,7 +64,8 @@ recount-requires c =
 
 pub go-a-requires : goal.go-a-requires
 go-a-requires c =
-    let packed = all_packed _ _ _ c.loop-i.invariant.1.0 c.requires.0.entries _ _ _ c.recount.ensures c.loop-i.invariant.1.1.1.0 c.loop-i.invariant.1.1.0 c.loop-i-test.false c.loop-i.invariant.1.1.1.1 in
+    let packed = all_packed _ _ _ c.loop-i.invariant.1.0 c.requires.0.entries _ _ _ c.recount.ensures
+    c.loop-i.invariant.1.1.1.0 c.loop-i.invariant.1.1.0 c.loop-i-test.false c.loop-i.invariant.1.1.1.1 in
     (able_ready c.requires.0 packed.0 packed.1, able_key c.requires.0 c.requires.1)
 
 pub overflow_sub-steps : goal.overflow_sub-steps
@@ -123,7 +124,8 @@ shape_of-console c = c.go-a.auto.console
 
 pub returns : goal.returns
 returns c =
-    let packed = all_packed _ _ _ c.loop-i.invariant.1.0 c.requires.0.entries _ _ _ c.recount.ensures c.loop-i.invariant.1.1.1.0 c.loop-i.invariant.1.1.0 c.loop-i-test.false c.loop-i.invariant.1.1.1.1 in
+    let packed = all_packed _ _ _ c.loop-i.invariant.1.0 c.requires.0.entries _ _ _ c.recount.ensures
+    c.loop-i.invariant.1.1.1.0 c.loop-i.invariant.1.1.0 c.loop-i-test.false c.loop-i.invariant.1.1.1.1 in
     let unpacked = unpacked_last c.go-a.ensures.good.buffer c.count-count.ensures _ _ c.loop-j.invariant.1.1.1.1.1 c.loop-j.invariant.1.0 c.loop-j-test.false in
     proceeds_in_place c.requires.0 packed.0 packed.1 c.go-a.ensures _ unpacked c.count-count.ensures c.walks-walks.ensures _ refl c.loop-j.invariant.1.1.0 c.loop-j.invariant.1.1.1.0
 

@@ -27,7 +27,8 @@ shape_of-tlb-in_default-q c =
 
 pub returns-in_default-q : goal.returns-in_default-q
 returns-in_default-q c =
-    λ con. rti_second _ c.translate-p.ensures c.sum-second.ensures c.in-At.is c.load4-code.ensures c.translate-q.ensures c.in_default-q.is c.fault_of-in_default-q.ensures c.next_pc-in_default-q.ensures (c.fault-in_default-q.ensures con)
+    λ con. rti_second _ c.translate-p.ensures c.sum-second.ensures c.in-At.is c.load4-code.ensures c.translate-q.ensures c.in_default-q.is
+    c.fault_of-in_default-q.ensures c.next_pc-in_default-q.ensures (c.fault-in_default-q.ensures con)
 
 pub load4-pc-requires : goal.load4-pc-requires
 load4-pc-requires c =
