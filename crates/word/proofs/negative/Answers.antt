@@ -1,3 +1,4 @@
+-- A word is negative where it is 2^31 or more (`sign_bit`).
 use Rattle.word.proofs.SignBit.{sign_bit}
 use Rattle.word.proofs.negative.Goals as goal
 
