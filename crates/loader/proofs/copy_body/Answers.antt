@@ -15,6 +15,3 @@ shape_of-mem c = c.loop-i.invariant.size
 
 pub returns : goal.returns
 returns c = placed_end c.loop-i-test.false c.loop-i.invariant
-
-pub bounds-mem-i : goal.bounds-mem-i
-bounds-mem-i c = omega arith

@@ -14,9 +14,3 @@ shape_of-mem c = c.loop-at.invariant.0.size
 
 pub returns : goal.returns
 returns c = zeroed_end _ _ c.requires (omega arith) c.loop-at.invariant.0
-
-pub bounds-mem-at : goal.bounds-mem-at
-bounds-mem-at c = omega arith
-
-pub loop-at-smaller : goal.loop-at-smaller
-loop-at-smaller c = omega arith

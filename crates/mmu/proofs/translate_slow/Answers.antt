@@ -1,7 +1,6 @@
 -- One law of `Ways` a return: paging off, within memory (`translate_at`) or beyond (`translate_beyond`); paging on, an entry that serves (`translate_hit`)
 -- or a walk (`translate_miss`).
 use native.Mathlib.Omega.{arith}
-use borrow.Author.Rules.{rules}
 use Rattle.mmu.proofs.Ways.{translate_hit, translate_miss, translate_at, translate_beyond}
 use Rattle.mmu.proofs.translate_slow.Goals as goal
 
@@ -12,9 +11,6 @@ returns-then-addr-mem c =
 pub returns-then-not-paging : goal.returns-then-not-paging
 returns-then-not-paging c =
     translate_beyond _ _ _ _ c.requires c.if-not-paging.true c.if-addr-mem.false c.denied.ensures
-
-pub refill-requires : goal.refill-requires
-refill-requires c = search rules
 
 pub returns-in_default : goal.returns-in_default
 returns-in_default c =

@@ -1,5 +1,5 @@
 -- The slot at hand has the page (`page_here`), or the page is searched for after it (`page_next`), to the last counted slot (`page_nowhere`).
-use mathlib.Core.Path.{refl, sym}
+use mathlib.Core.Path.{sym}
 use Rattle.refusals.proofs.Turns.{page_here, page_next, page_nowhere}
 use Rattle.refusals.proofs.has_page.Goals as goal
 
@@ -13,6 +13,3 @@ loop-i-preserved c =
 
 pub returns : goal.returns
 returns c = sym (page_nowhere _ _ c.well_formed.0.1.0.1 c.requires _ _ c.loop-i.invariant c.loop-i-test.false)
-
-pub loop-i-init : goal.loop-i-init
-loop-i-init c = refl

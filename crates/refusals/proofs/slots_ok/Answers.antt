@@ -42,9 +42,3 @@ loop-left-preserved c =
 
 pub returns : goal.returns
 returns c = all_passed _ _ _ _ _ _ c.loop-left.invariant.1.1 c.loop-left-test.false
-
-pub bounds-seen-k : goal.bounds-seen-k
-bounds-seen-k c = omega arith
-
-pub bounds-seen-k-in-loop-left : goal.bounds-seen-k-in-loop-left
-bounds-seen-k-in-loop-left c = omega arith

@@ -4,7 +4,7 @@ use Rattle.runs.proofs.Whole.{able_key, able_ready, proceeds_in_place}
 use Rattle.runs.proofs.Entries.{held_few, held_passes, all_packed, unpacked_turn, unpacked_last}
 use Rattle.buffer.proofs.Packed.{page_fits, frame_fits, packed_next}
 use Rattle.buffer.specs.Held.{unpack}
-use lib.ListN.{length, length-set, length-map}
+use lib.ListN.{length, length-set}
 use mathlib.Core.Path.{◌≡◌, refl, sym, ◌∙◌}
 use native.Mathlib.Omega.{arith}
 use Rattle.runs.proofs.proceed.Goals as goal
@@ -128,6 +128,3 @@ returns c =
     c.loop-i.invariant.1.1.1.0 c.loop-i.invariant.1.1.0 c.loop-i-test.false c.loop-i.invariant.1.1.1.1 in
     let unpacked = unpacked_last c.go-a.ensures.good.buffer c.count-count.ensures _ _ c.loop-j.invariant.1.1.1.1.1 c.loop-j.invariant.1.0 c.loop-j-test.false in
     proceeds_in_place c.requires.0 packed.0 packed.1 c.go-a.ensures _ unpacked c.count-count.ensures c.walks-walks.ensures _ refl c.loop-j.invariant.1.1.0 c.loop-j.invariant.1.1.1.0
-
-pub bounds-hint-e : goal.bounds-hint-e
-bounds-hint-e c = omega arith

@@ -1,6 +1,5 @@
 -- One law of `Order` a return: the tests before it passed and its own failed, so that its number is the lowest; after all five the read is accepted.
 use Rattle.snapshot.proofs.Order.{passed, failed, read_size, read_header, read_counts, read_offsets, read_held, read_record, read_accepted}
-use borrow.Author.Tests.{not-true}
 use Rattle.snapshot.proofs.judge_read.Goals as goal
 
 pub returns-then-not-size_ok : goal.returns-then-not-size_ok

@@ -17,9 +17,6 @@ pub returns-then-table-mem : goal.returns-then-table-mem
 returns-then-table-mem c =
     dir_beyond _ _ _ _ _ c.load4-dir.ensures c.bit-present.ensures c.if-not-present.false c.mark.ensures (omega arith)
 
-pub walk_table-requires : goal.walk_table-requires
-walk_table-requires c = search rules
-
 pub returns : goal.returns
 returns c =
     dir_present _ _ _ _ _ c.load4-dir.ensures c.bit-present.ensures c.if-not-present.false c.mark.ensures (omega arith) c.walk_table.ensures

@@ -2,9 +2,6 @@ use borrow.Author.Rules.{rules}
 use Rattle.word.specs.Word.{shift_left, shift_count}
 use Rattle.word.proofs.shift_left.Goals as goal
 
-pub overflow_shl-result : goal.overflow_shl-result
-overflow_shl-result c = search rules
-
 pub returns : goal.returns
 unfolding shift_left shift_count
 returns c = search rules

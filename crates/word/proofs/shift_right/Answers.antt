@@ -1,15 +1,11 @@
 -- The i32 is shifted by a count below 32, stays in its range (`shift_fits`), and its word is the rule's (`signed_result`).
 use Prim.Native.Nat.{◌^◌, ◌%◌}
-use borrow.Author.Rules.{rules}
 use lib.IntN.{ℤ}
 use lib.Signed.{shr_z}
 use Rattle.word.specs.Word.{shift_right, shift_count}
 use Rattle.word.proofs.Conversion.{signed_result}
 use Rattle.word.proofs.Shift.{shift_fits}
 use Rattle.word.proofs.shift_right.Goals as goal
-
-pub overflow_shr-signed : goal.overflow_shr-signed
-overflow_shr-signed c = search rules
 
 pub returns : goal.returns
 unfolding shift_right shift_count
