@@ -1,5 +1,4 @@
-// The entries that take structs behind references (document 01, "The shape of some places"), for callers that have record and keys by value, as the borrow
-// checker covers only those.
+// The entries that take structs behind references (document 01, "The shape of some places"), for callers that have record and keys by value.
 #![tactic(auto)]
 
 ghost use Rattle.std.specs.Prelude.{◌≤◌};

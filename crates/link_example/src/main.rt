@@ -51,7 +51,7 @@ fn show_console(console: &[u8], written: usize) {
     io::write_all(1, b"\n");
 }
 
-// A field that is a struct or an enum is copied first, one field at a time: the borrow checker covers that form.
+// A field that is a struct or an enum is copied first, one field at a time.
 fn show_registers(m: Machine) {
     let c = m.cpu;
     let stop = c.stop;
@@ -82,8 +82,8 @@ fn run(what: &[u8], m: Machine, memory: &mut [u8], console: &mut [u8], budget: u
     ran.machine
 }
 
-// A single step is a run of budget 1. `v9::single_step` makes it over the caller's own record, but a function that lends `&mut Machine` or `&[Key]` is proved by
-// hand: `entry_calls::single_step` is one, and takes both by value.
+// A single step is a run of budget 1. `v9::single_step` makes it over the caller's own record, with keys as structs (`entry_calls::single_step` calls it); here
+// the record goes by value, and the keys are packed.
 fn step(m: Machine, memory: &mut [u8], console: &mut [u8]) -> Machine {
     run(b"step", m, memory, console, 1)
 }

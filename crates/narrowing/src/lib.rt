@@ -1,4 +1,4 @@
-// Document 02, item 7: a double "narrowed to nearest, ties to even". Rattle has no cast that rounds, so the single's pattern is computed in integers.
+// Document 02, item 7: a double "narrowed to nearest, ties to even". The single's pattern is computed in integers.
 #![tactic(auto)]
 
 ghost use Rattle.std.specs.Prelude.{◌≡◌, ◌<◌, ◌^◌};
