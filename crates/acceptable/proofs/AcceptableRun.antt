@@ -1,6 +1,6 @@
 -- Document 01, "Numbers returned": an accepted record stays acceptable. After an accepted run, a run with the same keys and a budget of at most 1,000,000 is
 -- accepted too, in either machine, unless the step count has reached 2^63; then it is refused with 2, and for nothing else.
-use Rattle.std.proofs.Common.{if◌then◌else◌}
+use Rattle.std.proofs.Common.{if◌then◌else◌, Ok, Err}
 use Prim.Native.Nat.{ℕ, zero, suc, ◌%◌, ◌^◌}
 use mathlib.Core.Path.{◌≡◌, refl, ap, sym, ◌∙◌}
 use mathlib.Core.Bool.{Bool, true, false}
@@ -17,7 +17,7 @@ use Rattle.paging.proofs.BufferLaws.{empty_ok}
 use Rattle.paging.proofs.Coherent.{none_held}
 use Rattle.paging.proofs.ValidBuffer.{Valid}
 use Rattle.rules.specs.declared.Key.{Key}
-use Rattle.rules.specs.declared.RunAnswer.TheVariants.{Accepted, BadRegisters}
+use Rattle.rules.specs.declared.RunRefusal.TheVariants.{BadRegisters}
 use Rattle.rules.specs.Record.{is_running}
 use Rattle.rules.specs.Step.{State, Stepped, step}
 use Rattle.rules.specs.Run.{registers_ok, keys_rise, keys_ok, console_ok, budget_ok, is_accepted, run_answer, steps_of, last_of, run}
@@ -55,7 +55,7 @@ reader_keeping ks s p w ok =
 abbrev pub Again : {B : Type 0} → Translator B → List Key → Type 0
 Again {B} tr ks =
     (budget next : ℕ) (s : State B) → is_accepted (run_answer tr ks budget s) ≡ true → budget_ok next ≡ true
-    → run_answer tr ks next (run tr ks budget s).state ≡ (if ltb (count_of (run tr ks budget s).state) (2 ^ 63) then Accepted else BadRegisters)
+    → run_answer tr ks next (run tr ks budget s).state ≡ (if ltb (count_of (run tr ks budget s).state) (2 ^ 63) then Ok tt else Err BadRegisters)
 
 module _ {B : Type 0} (tr : Translator B) (kept : Keeping tr) (ks : List Key) where
   -- a state from which a run with these keys is refused with nothing but 2 for its step count, or 6
@@ -90,7 +90,7 @@ module _ {B : Type 0} (tr : Translator B) (kept : Keeping tr) (ks : List Key) wh
 
   -- the answer of a run from such a state
   ready_answer : (budget : ℕ) (s : State B) → Ready s → keys_rise 0 ks ≡ true → budget_ok budget ≡ true
-      → run_answer tr ks budget s ≡ (if ltb (count_of s) (2 ^ 63) then Accepted else BadRegisters)
+      → run_answer tr ks budget s ≡ (if ltb (count_of s) (2 ^ 63) then Ok tt else Err BadRegisters)
   unfolding run_answer keys_ok
   ready_answer budget s g r q =
       let p = g.acceptable.passes in

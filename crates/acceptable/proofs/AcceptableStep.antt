@@ -1,28 +1,27 @@
 -- Document 01, "Numbers returned": a step leaves an acceptable record, whatever the replies to its accesses. pc and ivec stay multiples of 4, sp, usp and ksp of 8,
 -- pdir a multiple of 4,096 below M; the keys taken stay within the list, and the console count within the console.
-use Rattle.std.proofs.Common.{if◌then◌else◌}
+use Rattle.std.proofs.Common.{if◌then◌else◌, Option, Some, None, IsSome, get_or, true≢false}
 use Prim.Native.Nat.{ℕ, ◌+◌, ◌≤◌, ◌<◌}
-use mathlib.Core.Path.{◌≡◌, refl, sym, ◌∙◌}
+use mathlib.Core.Path.{◌≡◌, refl, sym}
 use mathlib.Core.Bool.{Bool, true, false}
 use mathlib.Core.List.{List, []}
 use native.Mathlib.Omega.{arith}
 use lib.ListN.{length, length-set}
-use lib.Dec.{eqb, ltb, leb}
+use lib.Dec.{eqb, ltb}
 use borrow.Author.Tests.{ltb-true}
 use Rattle.word.specs.Word.{difference, sum, cut}
 use Rattle.decode.specs.declared.PlainOp.{PlainOp}
 use Rattle.decode.specs.declared.PlainOp.TheVariants.{Halt, Cli, Sti, Bin, Ssp, Ivec, Time, Lvad, Lusp, Susp, Msiz, Idle}
 use Rattle.paging.specs.declared.Space.{Space}
+use Rattle.paging.specs.declared.TrapCode.{TrapCode}
 use Rattle.paging.specs.TrapCode.{USER}
 use Rattle.paging.specs.Translate.{Translator}
 use Rattle.paging.specs.Walk.{bit}
-use Rattle.word.proofs.BoolLaws.{both}
 use Rattle.rules.specs.declared.Clock.{Clock}
 use Rattle.rules.specs.declared.Cpu.{Cpu}
 use Rattle.rules.specs.declared.Floats.{Floats}
 use Rattle.rules.specs.declared.Interrupt.{Interrupt}
 use Rattle.rules.specs.declared.Key.{Key}
-use Rattle.rules.specs.declared.Next.{Next}
 use Rattle.rules.specs.declared.Pending.{Pending}
 use Rattle.rules.specs.declared.Regs.{Regs}
 use Rattle.rules.specs.Record.{set_pc, set_sp, with_regs, with_system, with_iena, with_clock, with_timeout, with_written, with_floats, put_pending}
@@ -66,7 +65,7 @@ module _ (size keys console_size : ℕ) (s : Space) (d : Directory size s.pdir) 
       go false = omega arith
 
   -- a trap frame, stored or not
-  frame_acceptable : (c : Cpu) (left : Pending) (code pc : ℕ) → Passes keys console_size c → (r : Reply) → AllAcceptable (framed c left code pc r)
+  frame_acceptable : (c : Cpu) (left : Pending) (code : TrapCode) (pc : ℕ) → Passes keys console_size c → (r : Reply) → AllAcceptable (framed c left code pc r)
   unfolding space_after
   frame_acceptable c left code pc p (got x) = at_leaf (record { passes = entered_passes (put_pending left c) p; directory = d })
   frame_acceptable c left code pc p (denied f) = ended_acceptable p
@@ -156,20 +155,21 @@ module _ (size keys console_size : ℕ) (s : Space) (d : Directory size s.pdir) 
 -- ---- rules 1 to 3
 
 -- a key is taken only if there is one
-keyed_listed : (keys : ℕ) (k : Next) (comes : Bool) (t : Clock) → (comes ≡ true → t.taken < keys) → t.taken ≤ keys → (keyed k comes t).taken ≤ keys
-keyed_listed keys k true t more h = omega (arith, more refl)
-keyed_listed keys k false t more h = h
+keyed_listed : (keys : ℕ) (k : Option Key) (comes : Bool) (t : Clock) → (IsSome k → t.taken < keys) → t.taken ≤ keys → (keyed k comes t).taken ≤ keys
+keyed_listed keys None comes t more h = h
+keyed_listed keys (Some k) true t more h = omega (arith, more refl)
+keyed_listed keys (Some k) false t more h = h
 
 -- the record after them
-ticked_acceptable : {size keys console_size : ℕ} (k : Next) (c : Cpu) → (k.some ≡ true → c.clock.taken < keys)
+ticked_acceptable : {size keys console_size : ℕ} (k : Option Key) (c : Cpu) → (IsSome k → c.clock.taken < keys)
     → Acceptable size keys console_size c → Acceptable size keys console_size (ticked k c)
 unfolding ticked
 ticked_acceptable {keys = keys} k c more g =
-    let l = keyed_listed keys k (key_comes k c) c.clock (λ e. more (both k.some (leb k.step (c.regs.count + 1)) e).0) g.passes.listed in
+    let l = keyed_listed keys k (key_comes k c) c.clock more g.passes.listed in
     record { passes = omega (arith, g.passes, l, (timed_pending (keyed k (key_comes k c) c.clock)).1); directory = g.directory }
 
 -- a whole step: k is the next key of a list of `keys`
-step_acceptable : {size keys console_size : ℕ} (k : Next) (c : Cpu) → (k.some ≡ true → c.clock.taken < keys) → Acceptable size keys console_size c
+step_acceptable : {size keys console_size : ℕ} (k : Option Key) (c : Cpu) → (IsSome k → c.clock.taken < keys) → Acceptable size keys console_size c
     → Leaves (FinalAcceptable size keys console_size c.space) (step_tree k size console_size c)
 unfolding step_tree
 step_acceptable {size} {keys} {console_size} k c more g =
@@ -181,15 +181,14 @@ step_acceptable {size} {keys} {console_size} k c more g =
 
 -- ---- as a step of a machine
 
--- there is a next key only where not all are taken: a choice of two
-next_some : (b : Bool) (x y : Next) → x.some ≡ true → y.some ≡ false → (if b then x else y).some ≡ b
-next_some true x y p q = p
-next_some false x y p q = q
-
--- and so of a list
-next_listed : (ks : List Key) (n : ℕ) → (next_of ks n).some ≡ true → n < length ks
+-- there is a next key only where not all are taken
+next_listed : (ks : List Key) (n : ℕ) → IsSome (next_of ks n) → n < length ks
 unfolding next_of
-next_listed ks n q = ltb-true n (length ks) (sym (next_some (ltb n (length ks)) _ _ refl refl) ∙ q)
+next_listed ks n = go (ltb n (length ks)) refl
+  where
+    go : (b : Bool) → ltb n (length ks) ≡ b → IsSome (if b then Some (get_or ks n (record { step = 0; byte = 0 })) else None) → n < length ks
+    go true e s = ltb-true n (length ks) e
+    go false e s = absurd (true≢false (sym s))
 
 -- BOUT keeps the console's length
 console_length : (con : List ℕ) (n : ℕ) (e : Effect) → length (console_after con n e) ≡ length con

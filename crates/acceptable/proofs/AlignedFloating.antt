@@ -1,8 +1,7 @@
 -- Document 01, "Addresses", for document 02's item 7: every floating instruction leaves pc at a multiple of 4 and sp at a multiple of 8, a line for each; and so does
 -- the whole instruction of a step, in either mode.
 use Rattle.word.specs.Word.{difference, sum}
-use Rattle.double.specs.declared.Cut.{Cut}
-use Rattle.double.specs.declared.Cut.TheVariants.{Unfit, Fits}
+use Rattle.std.specs.Prelude.{ℕ, Option, None, Some}
 use Rattle.double.specs.Arithmetic.{value_of}
 use Rattle.double.specs.Whole.{cut_signed, cut_unsigned}
 use Rattle.floating_decode.specs.Opcodes.{floating_decode_of}
@@ -21,10 +20,10 @@ use Rattle.rules.proofs.Leaves.{Leaves, at_leaf, at_ask, leaves_then, leaves_if}
 use Rattle.acceptable.proofs.AlignedInstruction.{RegsAligned, OutAligned, AllAligned, reply_aligned, sp_aligned_set, branch_aligned, moved_aligned, instruction_aligned}
 
 -- CDI and CDU set a, or trap
-cut_aligned : (x : Cut) (r : Regs) (v : Floats) → RegsAligned r → AllAligned (cut_tree x r v)
+cut_aligned : (x : Option ℕ) (r : Regs) (v : Floats) → RegsAligned r → AllAligned (cut_tree x r v)
 unfolding cut_tree
-cut_aligned Unfit r v h = at_leaf tt
-cut_aligned (Fits x) r v h = at_leaf h
+cut_aligned None r v h = at_leaf tt
+cut_aligned (Some x) r v h = at_leaf h
 
 -- every floating instruction, with pc moved on
 float_aligned : (i : FloatInstr) (r : Regs) (v : Floats) → RegsAligned r → AllAligned (float_tree i r v)

@@ -1,32 +1,39 @@
--- The search for a page in the lent array, one law a turn of its loop.
-use Rattle.std.proofs.Common.{◌≡◌, ℕ, ◌+◌, ◌<◌, ◌≤◌, List, length, get_or, drop, sym, ap, ◌∙◌, add-zero, add-one, arith, drop_of_length-le, drop-cons, eq-eqb, ne_eqb}
-use Rattle.paging.specs.declared.Entry.{Entry}
+-- The search for a page in the lent array: what `position` finds among the counted numbers, or their count, is where the page's entry stands.
+use Rattle.std.proofs.Common.{◌≡◌, ℕ, suc, ◌+◌, ◌≤◌, Bool, true, false, cond, eqb, ltb, List}
+use Rattle.std.proofs.Common.{[], ◌∷◌, map, length, take, refl, arith, length-take-le, ltb-false, Option, Some, None, if◌then◌else◌}
+use Rattle.std.specs.Prelude.{unwrap_or, position}
+use Rattle.std.specs.List.{position_or_len}
+use Rattle.std.proofs.lemmas.List.Recursion.{is_position_or_len}
 use Rattle.buffer.specs.Held.{page_in, count, unpack, entries_in, index_of, Buffer}
-use Rattle.buffer.proofs.Slots.{length-held, held_at}
 
--- i entries are passed
-abbrev pub Passed : ℕ → List Entry → ℕ → Type 0
-Passed p es i = index_of p es ≡ i + index_of p (drop i es)
+module _ (p : ℕ) where
+  abbrev pub of_page : ℕ → Bool
+  of_page e = eqb (page_in e) p
 
-module _ (p : ℕ) (es : List Entry) (i : ℕ) (h : Passed p es i) where
-  index_here : i < length es → (get_or es i (unpack 0)).page ≡ p → index_of p es ≡ i
+  index_first : (es : List ℕ) → index_of p (map unpack es) ≡ position_or_len of_page es
   unfolding index_of
-  index_here l e = h ∙ rw (drop-cons es i (unpack 0) l, eq-eqb _ _ e) (add-zero i)
+  index_first = is_position_or_len (λ es. index_of p (map unpack es)) of_page refl (λ x xs. go (of_page x) _)
+    where
+      go : (b : Bool) (n : ℕ) → (if b then 0 else suc n) ≡ cond b 0 (1 + n)
+      go true n = refl
+      go false n = omega arith
 
-  index_next : i < length es → ((get_or es i (unpack 0)).page ≡ p → ⊥) → Passed p es (i + 1)
+  index_most : (es : List ℕ) → index_of p (map unpack es) ≤ length es
   unfolding index_of
-  index_next l e = h ∙ rw (drop-cons es i (unpack 0) l, ne_eqb _ _ e, add-one i) (omega arith)
+  index_most [] = omega arith
+  index_most (x ∷ xs) = go (of_page x) (index_most xs)
+    where
+      go : (b : Bool) {n k : ℕ} → n ≤ k → (if b then 0 else suc n) ≤ suc k
+      go true h = omega arith
+      go false h = omega arith
 
-  index_end : length es ≤ i → index_of p es ≡ i
-  unfolding index_of
-  index_end l = h ∙ rw (drop_of_length-le es l) (add-zero i)
-
-module _ (l : List ℕ) (p i : ℕ) (b : Buffer l) (h : Passed p (entries_in l) i) where
-  pub search_here : i < count l → page_in (get_or l i 0) ≡ p → i ≡ index_of p (entries_in l)
-  search_here k e = sym (index_here p (entries_in l) i h (rw (length-held l b) k) (ap (λ (x : Entry). x.page) (held_at l i k) ∙ e))
-
-  pub search_next : i < count l → (page_in (get_or l i 0) ≡ p → ⊥) → Passed p (entries_in l) (i + 1)
-  search_next k e = index_next p (entries_in l) i h (rw (length-held l b) k) (λ q. e (sym (ap (λ (x : Entry). x.page) (held_at l i k)) ∙ q))
-
-  pub search_end : count l ≤ i → i ≡ index_of p (entries_in l)
-  search_end k = sym (index_end p (entries_in l) i h (rw (length-held l b) k))
+  pub searched : (l : List ℕ) → Buffer l → {r : Option ℕ} {n : ℕ} → r ≡ position of_page (take (count l) l) → n ≡ count l → unwrap_or r n ≡ index_of p (entries_in l)
+  unfolding entries_in
+  searched l b {r} {n} f e =
+      let counted : length (take (count l) l) ≡ count l = length-take-le (count l) l (omega arith) in
+      let most = rw (index_first (take (count l) l), counted) at (index_most (take (count l) l)) in
+      rw (f, e, counted, index_first (take (count l) l)) (go (position_or_len of_page (take (count l) l)) most (ltb (position_or_len of_page (take (count l) l)) (count l)) refl)
+    where
+      go : (k : ℕ) → k ≤ count l → (c : Bool) → ltb k (count l) ≡ c → unwrap_or (cond c (Some k) None) (count l) ≡ k
+      go k h true e = refl
+      go k h false e = let past = ltb-false _ _ e in omega arith

@@ -1,13 +1,11 @@
 -- Document 01, "Addresses", and document 02, item 6: the page buffer as it is lent, one array of numbers. Its layout is decided here alone: 64 slots with an
 -- entry each, then the count of entries, then the table walks counted. A slot past the count may hold anything.
-use Rattle.std.specs.Prelude.{◌≡◌, ℕ, suc, ◌/◌, ◌%◌, ◌≤◌, Bool, ◌&&◌, List, [], ◌∷◌, map, length, take, ◌==◌, nat_lt, slice_index, if◌then◌else◌}
+use Rattle.std.specs.Prelude.{◌≡◌, ℕ, suc, ◌/◌, ◌%◌, ◌≤◌, Bool, ◌&&◌, List, [], ◌∷◌, map, length, take, ◌==◌, nat_lt, slice_index, if◌then◌else◌, Option, Some, None}
 use Rattle.paging.specs.declared.Access.{Access}
 use Rattle.paging.specs.declared.Entry.{Entry}
 use Rattle.paging.specs.Buffer.{serves}
 use Rattle.paging.specs.Walk.{bit}
 use Rattle.paging.specs.Counting.{Counted, counted}
-use Rattle.buffer.specs.declared.Hit.{Hit}
-use Rattle.buffer.specs.declared.Hit.TheVariants.{Frame, Miss}
 
 -- how many numbers the lent array has
 abbrev pub slots : ℕ
@@ -58,9 +56,9 @@ index_of p [] = 0
 index_of p (e ∷ es) = if e.page == p then 0 else suc (index_of p es)
 
 -- what slot i gives for page p: its frame, if its entry is counted, is of the page, and serves the access
-unfoldable pub slot_hit : List ℕ → ℕ → ℕ → Access → Bool → Hit
+unfoldable pub slot_hit : List ℕ → ℕ → ℕ → Access → Bool → Option ℕ
 slot_hit l i p kind user =
-    if nat_lt i (count l) && ((unpack (slice_index l i)).page == p && serves (unpack (slice_index l i)) kind user) then Frame (unpack (slice_index l i)).frame else Miss
+    if nat_lt i (count l) && ((unpack (slice_index l i)).page == p && serves (unpack (slice_index l i)) kind user) then Some (unpack (slice_index l i)).frame else None
 
 -- the array lent for a page buffer
 pub record Buffer (l : List ℕ) : Type 0 where

@@ -8,13 +8,6 @@ ghost use Rattle.buffer.specs.Held.{slots, frames, page_in, entry, unpack, count
 
 use paging::{Access, Entry};
 
-// The frame that the buffer gives for a page, or none.
-#[derive(Clone, Copy)]
-pub enum Hit {
-    Frame(u32),
-    Miss,
-}
-
 // The layout of an entry's number: `page * PAGE_UNIT + frame * FRAME_UNIT`, and its rights.
 const PAGE_UNIT: u64 = 4294967296;
 
@@ -39,7 +32,7 @@ pub fn unpack(e: u64) -> Entry
         page: (e / PAGE_UNIT) as u32,
         frame: (e / FRAME_UNIT % FRAMES) as u32,
         user: e / 2 % 2 == 1,
-        write: e / 1 % 2 == 1,
+        write: e % 2 == 1,
     }
 }
 
@@ -73,31 +66,31 @@ pub fn raise_walks(tlb: &mut [u64])
     requires { Buffer tlb.old }
     ensures { tlb.new ≡ slice_set tlb.old 65 ((walks tlb.old + 1) % 2 ^ 64) }
 {
-    tlb[65] = std::num::wrapping_add_u64(tlb[65], 1);
+    tlb[65] = tlb[65].wrapping_add(1);
 }
 
 // Whether the entry of a number serves an access.
+#[inline(always)]
 pub fn serves(e: u64, kind: Access, user: bool) -> bool
     ensures { result ≡ serves (unpack e) kind user }
 {
-    let write = paging::writes(kind);
-    (!user | (e / 2 % 2 == 1)) & (!write | (e / 1 % 2 == 1))
+    (!user | (e / 2 % 2 == 1)) & (!paging::writes(kind) | (e % 2 == 1))
 }
 
 // What one slot gives for a page: its frame, if its entry is counted, is of the page, and serves the access.
-pub fn slot(tlb: &[u64], i: usize, page: u64, kind: Access, user: bool) -> Hit
+#[inline(always)]
+pub fn slot(tlb: &[u64], i: usize, page: u64, kind: Access, user: bool) -> Option<u32>
     requires { Buffer tlb.now }
     ensures { result ≡ slot_hit tlb.now i page kind user }
 {
     if i >= count(tlb) {
-        return Hit::Miss;
+        return None;
     }
     let e = tlb[i];
-    let ok = (e / PAGE_UNIT == page) & serves(e, kind, user);
-    if ok {
-        Hit::Frame((e / FRAME_UNIT % FRAMES) as u32)
+    if (e / PAGE_UNIT == page) & serves(e, kind, user) {
+        Some((e / FRAME_UNIT % FRAMES) as u32)
     } else {
-        Hit::Miss
+        None
     }
 }
 
@@ -107,14 +100,10 @@ pub fn lookup(tlb: &[u64], page: u64) -> usize
     ensures { result ≡ index_of page (entries_in tlb.now) }
 {
     let n = count(tlb);
-    let mut i = 0;
-    while i < n {
-        if tlb[i] / PAGE_UNIT == page {
-            return i;
-        }
-        i += 1;
-    }
-    i
+    tlb[..n]
+        .iter()
+        .position(|e| e / PAGE_UNIT == page)
+        .unwrap_or(n)
 }
 
 // Keeps an entry whose page was looked up at `i`: in the place of the same page's, or after the others, or alone where there is no more room.

@@ -1,76 +1,35 @@
-// reference/CALLS.md, kinds 3 and 4: a machine saved, and a saved machine read.
+// reference/CALLS.md, kinds 3 and 4: a machine saved, and a saved machine read. Each uses as much of memory, console and file as it says.
 use case_format::digest::digest;
-use case_format::given::{chunks, fill, place, word};
-use case_format::printed::{end, number, numbers};
-use case_records::given::{lend, machine_of};
+use case_format::given::{byte, place, put_chunks};
+use case_format::printed::Line;
+use case_records::given::{first, lend, machine_of};
 use case_records::printed::show_line;
-use rules::Machine;
-
-// The byte that fills what a call lends.
-fn filler(s: &[u8], at: usize) -> u8 {
-    (word(s, at) % 256) as u8
-}
 
 // What saving answers, and the file after it.
-fn save_shown(m: Machine, no: u64, mem: &[u8], con: &[u8], file: &mut [u8]) {
-    let saved = snapshot::save(m, mem, con, file);
-    let answer = saved.answer;
-    let values = [
-        snapshot::save_number(answer) as u64,
-        saved.length as u64,
-        digest(file, false),
-        digest(file, true),
-    ];
-    let mut out = [0u8; 128];
-    let at = number(&mut out, 0, true, no);
-    let at = numbers(&mut out, at, &values);
-    end(&mut out, at);
-}
-
-fn show_saved(s: &[u8], no: u64, mem: &mut [u8], con: &mut [u8], file: &mut [u8]) {
+pub fn show_saved(s: &[u8], no: u64, memory: &mut [u8], console: &mut [u8], most: &mut [u8]) {
+    let file = first(most, place(s, 8));
+    let mem = first(memory, place(s, 12));
+    let con = first(console, place(s, 16));
+    file.fill(byte(s, 36));
     lend(s, mem, con);
-    fill(file, filler(s, 36));
-    save_shown(machine_of(s), no, mem, con, file);
+    let saved = snapshot::save(machine_of(s), mem, con, file);
+    let mut line = Line::of(no);
+    line.number(u64::from(snapshot::save_number(saved.answer)));
+    line.number(saved.length as u64);
+    line.numbers(&digest(file));
+    line.write();
 }
 
 // What reading answers, and the machine after it.
-fn read_shown(file: &[u8], no: u64, mem: &mut [u8], con: &mut [u8]) {
+pub fn show_restored(s: &[u8], no: u64, memory: &mut [u8], console: &mut [u8], most: &mut [u8]) {
+    let file = first(most, place(s, 8));
+    let mem = first(memory, place(s, 12));
+    let con = first(console, place(s, 16));
+    mem.fill(byte(s, 20));
+    con.fill(byte(s, 20));
+    file.fill(0);
+    put_chunks(s.get(28..).unwrap_or(b""), place(s, 24), file);
     let restored = snapshot::read(file, mem, con);
-    let answer = restored.answer;
-    let machine = restored.machine;
-    let head = [snapshot::read_number(answer) as u64];
-    show_line(no, &head, machine, mem, con);
-}
-
-fn show_restored(s: &[u8], no: u64, mem: &mut [u8], con: &mut [u8], file: &mut [u8]) {
-    fill(mem, filler(s, 20));
-    fill(con, filler(s, 20));
-    fill(file, 0);
-    chunks(s, 28, place(s, 24), file);
-    read_shown(file, no, mem, con);
-}
-
-fn show_kind(s: &[u8], no: u64, mem: &mut [u8], con: &mut [u8], file: &mut [u8]) {
-    if word(s, 4) == 3 {
-        show_saved(s, no, mem, con, file);
-        return;
-    }
-    show_restored(s, no, mem, con, file);
-}
-
-// The line of a call of either kind, which uses as much of memory, console and file as it says.
-pub fn show_machine(s: &[u8], no: u64, memory: &mut [u8], console: &mut [u8], files: &mut [u8]) {
-    let f = place(s, 8);
-    let m = place(s, 12);
-    let n = place(s, 16);
-    if memory.len() < m {
-        return;
-    }
-    if console.len() < n {
-        return;
-    }
-    if files.len() < f {
-        return;
-    }
-    show_kind(s, no, &mut memory[..m], &mut console[..n], &mut files[..f]);
+    let number = snapshot::read_number(restored.answer);
+    show_line(no, &[u64::from(number)], &restored.machine, mem, con);
 }

@@ -1,44 +1,34 @@
 // reference/FORMAT.md, "Digest": two numbers for many bytes.
-ghost use Rattle.std.specs.Prelude.{◌<◌, ◌^◌};
+ghost use Rattle.std.specs.Prelude.{◌<◌};
+
+use crate::given::byte;
+
+const FIRST: u64 = 4_294_967_311;
+
+const SECOND: u64 = 4_294_967_357;
 
 // One more word.
-fn mix(x: u64, w: u64, second: bool) -> u64
-    requires { (x < 4294967357) × (w < 2 ^ 32) }
-    ensures { result < 4294967357 }
+fn mixed(x: u64, word: u32, factor: u64, modulus: u64) -> u64
+    requires small { (x < 4294967357) × (factor < 1000000000) }
+    requires modulus { (0 < modulus) × (modulus < 4294967358) }
+    ensures { result < modulus }
 {
-    if second {
-        return (x * 998_244_353 + w) % 4_294_967_357;
-    }
-    (x * 1_000_003 + w) % 4_294_967_311
+    (x * factor + u64::from(word)) % modulus
 }
 
-// The byte at a place, 0 past the end.
-pub fn byte(s: &[u8], at: usize) -> u8 {
-    if s.len() <= at {
-        return 0;
-    }
-    s[at]
+// A word of at most four bytes, filled up with zero bytes.
+fn padded(bytes: &[u8]) -> u32 {
+    u32::from_le_bytes(std::array::from_fn(|i| byte(bytes, i)))
 }
 
-// A word, filled up with zero bytes past the end.
-fn padded(s: &[u8], at: usize) -> u64
-    requires { at < 2 ^ 63 }
-    ensures { result < 2 ^ 32 }
-{
-    let b0 = byte(s, at) as u64;
-    let b1 = byte(s, at + 1) as u64;
-    let b2 = byte(s, at + 2) as u64;
-    let b3 = byte(s, at + 3) as u64;
-    b0 + 256 * b1 + 65536 * b2 + 16_777_216 * b3
-}
-
-// The first number, or the second.
-pub fn digest(s: &[u8], second: bool) -> u64 {
-    let mut x = s.len() as u64 % 4_294_967_311;
-    let mut i = 0;
-    while i < s.len() {
-        x = mix(x, padded(s, i), second);
-        i += 4;
+// Both numbers.
+pub fn digest(s: &[u8]) -> [u64; 2] {
+    let mut x = s.len() as u64 % FIRST;
+    let mut y = x;
+    for bytes in s.chunks(4) {
+        let word = padded(bytes);
+        x = mixed(x, word, 1_000_003, FIRST);
+        y = mixed(y, word, 998_244_353, SECOND);
     }
-    x
+    [x, y]
 }

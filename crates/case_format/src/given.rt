@@ -1,20 +1,21 @@
-// reference/FORMAT.md, "Cases": numbers of a case's bytes, and its bytes copied.
-ghost use Rattle.std.specs.Prelude.{◌≤◌, ◌<◌, ◌^◌};
+// reference/FORMAT.md, "Cases": numbers of a case's bytes, and its chunks.
+ghost use Rattle.std.specs.Prelude.{◌<◌, ◌^◌};
 
 // How many numbers the record has, and the place after them, where the slots begin.
 pub const NUMBERS: usize = 25;
 
 pub const SLOTS: usize = 60 + 8 * NUMBERS;
 
+// A byte.
+pub fn byte(s: &[u8], at: usize) -> u8 {
+    s.get(at).copied().unwrap_or(0)
+}
+
 // A number of four bytes.
 pub fn word(s: &[u8], at: usize) -> u32 {
-    if s.len() < 4 {
-        return 0;
-    }
-    if s.len() - 4 < at {
-        return 0;
-    }
-    memory::load4(s, at)
+    s.get(at..)
+        .and_then(|rest| rest.first_chunk())
+        .map_or(0, |bytes| u32::from_le_bytes(*bytes))
 }
 
 // A number of four bytes, as a length or a place: below 2 to the 32.
@@ -26,57 +27,65 @@ pub fn place(s: &[u8], at: usize) -> usize
 
 // A number of eight bytes.
 pub fn long(s: &[u8], at: usize) -> u64 {
-    if s.len() < at {
+    let Some(rest) = s.get(at..) else {
         return 0;
-    }
-    word(s, at) as u64 + 0x1_0000_0000 * word(s, at + 4) as u64
+    };
+    u64::from(word(rest, 0)) | u64::from(word(rest, 4)) << 32
 }
 
-// The smaller of two numbers.
-pub fn least(a: usize, b: usize) -> usize
-    ensures { (result ≤ a) × (result ≤ b) }
-{
-    if a < b { a } else { b }
+// The record's numbers.
+pub fn numbers(s: &[u8]) -> [u64; NUMBERS] {
+    std::array::from_fn(|i| long(s, 60 + 8 * i))
 }
 
-// Bytes of one value.
-pub fn fill(bytes: &mut [u8], value: u8) {
-    let mut i = 0;
-    while i < bytes.len() {
-        bytes[i] = value;
-        i += 1;
-    }
+// Bytes of a memory, and where they go.
+#[derive(Clone, Copy)]
+pub struct Chunk<'a> {
+    pub start: u32,
+    pub bytes: &'a [u8],
 }
 
-// The n bytes of s from `from` on, put into `to` from `at` on: as many as there are and as fit.
-pub fn copy(s: &[u8], from: usize, to: &mut [u8], at: usize, n: usize) {
-    if s.len() < from {
-        return;
-    }
-    if to.len() < at {
-        return;
-    }
-    let given = least(n, s.len() - from);
-    let most = least(given, to.len() - at);
-    let mut i = 0;
-    while i < most {
-        to[at + i] = s[from + i];
-        i += 1;
+impl<'a> Chunk<'a> {
+    // The chunk that bytes begin with, and the bytes after it.
+    pub fn split_off(s: &'a [u8]) -> Option<(Chunk<'a>, &'a [u8])> {
+        let (bytes, rest) = s.get(8..)?.split_at_checked(place(s, 4))?;
+        let start = word(s, 0);
+        Some((Chunk { start, bytes }, rest))
     }
 }
 
-// Memory's chunks, from `from` on. The result is the place after the last.
-pub fn chunks(s: &[u8], from: usize, count: usize, mem: &mut [u8]) -> usize {
-    let mut at = from;
-    let mut i = 0;
-    while i < count {
-        if s.len() <= at {
-            return at;
-        }
-        let n = place(s, at + 4);
-        copy(s, at + 8, mem, place(s, at), n);
-        at = at + 8 + n;
-        i += 1;
+// A run's keys, nine bytes each, and its budget.
+#[derive(Clone, Copy)]
+pub struct Run<'a> {
+    pub keys: &'a [u8],
+    pub budget: u64,
+}
+
+impl<'a> Run<'a> {
+    // The run that bytes begin with, and the bytes after it.
+    pub fn split_off(s: &'a [u8]) -> Option<(Run<'a>, &'a [u8])> {
+        let (keys, rest) = s.get(4..)?.split_at_checked(9 * place(s, 0))?;
+        let budget = long(rest, 0);
+        Some((Run { keys, budget }, rest.get(8..)?))
     }
-    at
+}
+
+// The chunks that bytes begin with, put into memory. The result is the bytes after them.
+pub fn put_chunks<'a>(s: &'a [u8], count: usize, mem: &mut [u8]) -> &'a [u8] {
+    let mut rest = s;
+    for _ in 0..count {
+        let Some((chunk, after)) = Chunk::split_off(rest) else {
+            break;
+        };
+        put(chunk.bytes, chunk.start as usize, mem);
+        rest = after;
+    }
+    rest
+}
+
+// Bytes put where they go, if they fit there.
+pub fn put(bytes: &[u8], at: usize, to: &mut [u8]) {
+    if at <= to.len() && bytes.len() <= to.len() - at {
+        to[at..at + bytes.len()].copy_from_slice(bytes);
+    }
 }

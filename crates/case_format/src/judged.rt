@@ -1,11 +1,9 @@
 // reference/FORMAT.md, "The last line": a case is judged whole before any of it is run, by its bytes alone.
-ghost use Rattle.std.specs.Prelude.{◌≤◌, ◌<◌, ◌^◌, length};
+use crate::given::{Chunk, NUMBERS, Run, SLOTS, numbers, place, word};
 
-use crate::given::{NUMBERS, SLOTS, long, place, word};
-
-// What was read of a stream.
+// Why a stream goes no further.
 #[derive(Clone, Copy)]
-pub enum Judged {
+pub enum Ended {
     // Nothing more.
     End,
     // Less than a case.
@@ -14,154 +12,125 @@ pub enum Judged {
     Bounds,
     // A case whose parts contradict each other.
     Malformed,
-    // A case.
-    Good,
 }
 
-// Good or malformed.
-pub fn formed(holds: bool) -> Judged {
-    if holds {
-        return Judged::Good;
-    }
-    Judged::Malformed
+// What a case asks for.
+#[derive(Clone, Copy)]
+pub enum Kind {
+    Runs,
+    Load,
 }
 
-// The largest value of the i-th number of the record: words, flags and marks, the stop reason, the cause, the step count, the mode, f and g.
-fn most(i: usize) -> u64 {
-    if i < 13 {
-        return 0xFFFF_FFFF;
+impl TryFrom<u32> for Kind {
+    type Error = Ended;
+
+    fn try_from(number: u32) -> Result<Kind, Ended> {
+        match number {
+            1 => Ok(Kind::Runs),
+            2 => Ok(Kind::Load),
+            _ => Err(Ended::Malformed),
+        }
     }
-    if i < 19 {
-        return 1;
-    }
-    if i < 20 {
-        return 3;
-    }
-    if i < 21 {
-        return 7;
-    }
-    if i == 22 {
-        return 1;
-    }
-    0xFFFF_FFFF_FFFF_FFFF
 }
+
+// What must hold, or the stream ends.
+pub fn ensure(holds: bool, otherwise: Ended) -> Result<(), Ended> {
+    if holds { Ok(()) } else { Err(otherwise) }
+}
+
+const WORD: u64 = 0xFFFF_FFFF;
+
+const LONG: u64 = 0xFFFF_FFFF_FFFF_FFFF;
+
+// The largest values of the record's numbers: words, flags and marks, the stop reason, the cause, the step count, the mode, f and g.
+const LARGEST: [u64; NUMBERS] = [
+    WORD, WORD, WORD, WORD, WORD, WORD, WORD, WORD, WORD, WORD, WORD, WORD, WORD, 1, 1, 1, 1, 1, 1,
+    3, 7, LONG, 1, LONG, LONG,
+];
 
 // Whether the numbers of the record fit their fields.
 fn numbers_fit(s: &[u8]) -> bool {
-    let mut i = 0;
-    while i < NUMBERS {
-        if most(i) < long(s, 60 + 8 * i) {
-            return false;
-        }
-        i += 1;
-    }
-    true
+    numbers(s)
+        .iter()
+        .zip(&LARGEST)
+        .all(|(n, largest)| n <= largest)
 }
 
 // Whether the rights of the slots are 0 or 1.
-fn rights_fit(s: &[u8], slots: usize) -> bool
-    requires { slots < 2 ^ 32 }
-{
-    let mut i = 0;
-    while i < slots {
-        let at = SLOTS + 16 * i;
-        if (1 < word(s, at + 8)) | (1 < word(s, at + 12)) {
-            return false;
-        }
-        i += 1;
-    }
-    true
+fn rights_fit(slots: &[u8]) -> bool {
+    slots
+        .chunks_exact(16)
+        .all(|slot| word(slot, 8) <= 1 && word(slot, 12) <= 1)
 }
 
-// The place after the chunks from `from` on, which rise within `size` bytes; 0 where they do not.
-pub fn chunks_end(s: &[u8], from: usize, count: usize, size: usize) -> usize
-    ensures { result ≤ length s.now }
-{
-    if s.len() < from {
-        return 0;
-    }
-    let mut at = from;
+// The bytes after the chunks that s begins with, if these rise within `size` bytes.
+pub fn after_chunks(s: &[u8], count: usize, size: usize) -> Option<&[u8]> {
+    let mut rest = s;
     let mut free = 0;
-    let mut i = 0;
-    while i < count {
-        let start = place(s, at);
-        let n = place(s, at + 4);
-        if (start < free) | (size < start + n) {
-            return 0;
+    for _ in 0..count {
+        let (chunk, after) = Chunk::split_off(rest)?;
+        let start = chunk.start as usize;
+        if start < free || size < start + chunk.bytes.len() {
+            return None;
         }
-        if s.len() < at + 8 + n {
-            return 0;
-        }
-        free = start + n;
-        at = at + 8 + n;
-        i += 1;
+        free = start + chunk.bytes.len();
+        rest = after;
     }
-    at
+    Some(rest)
 }
 
-// The place after the machine that a case or a call gives: numbers, slots, chunks, the console's bytes; 0 where they contradict each other or the tables.
-pub fn machine_end(s: &[u8]) -> usize {
-    let slots = place(s, 24);
-    let header = (slots <= 64) & (word(s, 32) <= word(s, 16)) & (place(s, 56) == NUMBERS);
-    if !header | (s.len() < SLOTS + 16 * slots) {
-        return 0;
+// The bytes after the machine that a case or a call gives, its numbers, slots, chunks and the console's bytes, if these don't contradict each other or the tables.
+pub fn after_machine(s: &[u8]) -> Option<&[u8]> {
+    if 64 < place(s, 24) || word(s, 16) < word(s, 32) || place(s, 56) != NUMBERS {
+        return None;
     }
-    if !(numbers_fit(s) & rights_fit(s, slots)) {
-        return 0;
+    let (slots, chunks) = s.get(SLOTS..)?.split_at_checked(16 * place(s, 24))?;
+    if !numbers_fit(s) || !rights_fit(slots) {
+        return None;
     }
-    let at = chunks_end(s, SLOTS + 16 * slots, place(s, 28), place(s, 12));
-    if at == 0 {
-        return 0;
-    }
-    at + place(s, 32)
+    after_chunks(chunks, place(s, 28), place(s, 12))?.get(place(s, 32)..)
 }
 
-// The runs from `from` on, to the end of the case.
-fn judge_list(s: &[u8], from: usize, count: usize) -> Judged {
-    let mut at = from;
-    let mut i = 0;
-    while i < count {
-        if s.len() < at {
-            return Judged::Malformed;
-        }
-        let keys = place(s, at);
-        if (s.len() - at >= 4) & (64 < keys) {
-            return Judged::Bounds;
-        }
-        at = at + 12 + 9 * keys;
-        i += 1;
+// Runs, as many as there are to be.
+fn judge_list(s: &[u8], count: usize) -> Result<(), Ended> {
+    let mut rest = s;
+    for _ in 0..count {
+        ensure(place(rest, 0) <= 64, Ended::Bounds)?;
+        let (_, after) = Run::split_off(rest).ok_or(Ended::Malformed)?;
+        rest = after;
     }
-    formed(at == s.len())
+    ensure(rest.is_empty(), Ended::Malformed)
 }
 
 // A case of runs: bounds, the machine, the runs.
-fn judge_runs(s: &[u8]) -> Judged {
-    if (2097152 < word(s, 12)) | (4096 < word(s, 16)) | (64 < word(s, 36)) {
-        return Judged::Bounds;
-    }
+fn judge_runs(s: &[u8]) -> Result<(), Ended> {
+    ensure(60 <= s.len(), Ended::Malformed)?;
+    ensure(
+        word(s, 12) <= 2_097_152 && word(s, 16) <= 4096 && word(s, 36) <= 64,
+        Ended::Bounds,
+    )?;
     let entries = word(s, 8);
-    let at = machine_end(s);
-    if (entries == 0) | (15 < entries) | (at == 0) {
-        return Judged::Malformed;
-    }
-    judge_list(s, at, place(s, 36))
+    ensure(0 < entries && entries <= 15, Ended::Malformed)?;
+    let runs = after_machine(s).ok_or(Ended::Malformed)?;
+    judge_list(runs, place(s, 36))
 }
 
 // A case of loading.
-fn judge_load(s: &[u8]) -> Judged {
-    if 2097152 < word(s, 8) {
-        return Judged::Bounds;
-    }
-    formed((word(s, 12) < 256) & (20 + place(s, 16) == s.len()))
+fn judge_load(s: &[u8]) -> Result<(), Ended> {
+    ensure(20 <= s.len(), Ended::Malformed)?;
+    ensure(word(s, 8) <= 2_097_152, Ended::Bounds)?;
+    ensure(
+        word(s, 12) < 256 && 20 + place(s, 16) == s.len(),
+        Ended::Malformed,
+    )
 }
 
-// A case.
-pub fn judge(s: &[u8]) -> Judged {
-    if (word(s, 4) == 1) & (60 <= s.len()) {
-        return judge_runs(s);
+// A case: its kind, if it is one.
+pub fn judge(s: &[u8]) -> Result<Kind, Ended> {
+    let kind = Kind::try_from(word(s, 4))?;
+    match kind {
+        Kind::Runs => judge_runs(s)?,
+        Kind::Load => judge_load(s)?,
     }
-    if (word(s, 4) == 2) & (20 <= s.len()) {
-        return judge_load(s);
-    }
-    Judged::Malformed
+    Ok(kind)
 }

@@ -1,36 +1,62 @@
-// reference/FORMAT.md, "Expected output": a line of numbers, with spaces between them.
+// reference/FORMAT.md, "Expected output": a line of words, with a space between them.
+ghost use Rattle.std.specs.Prelude.{◌≤◌};
 
-// A number, after a space if it is not the first of its line. The result is the place after it.
-pub fn number(out: &mut [u8], at: usize, first: bool, n: u64) -> usize {
-    if out.len() < 21 {
-        return at;
-    }
-    if out.len() - 21 < at {
-        return at;
-    }
-    if first {
-        return text::decimal(out, at, n);
-    }
-    out[at] = b' ';
-    text::decimal(out, at + 1, n)
+// The longest line of a case has below 3,000 bytes: nothing is left out.
+const LONGEST: usize = 8192;
+
+#[derive(Drop)]
+pub struct Line {
+    bytes: [u8; LONGEST],
+    end: usize,
+    ghost within: { end ≤ 8192 },
 }
 
-// Numbers that are not the first of their line.
-pub fn numbers(out: &mut [u8], at: usize, values: &[u64]) -> usize {
-    let mut p = at;
-    let mut i = 0;
-    while i < values.len() {
-        p = number(out, p, false, values[i]);
-        i += 1;
+impl Line {
+    // A line that begins with a number.
+    pub fn of(n: u64) -> Line {
+        let mut line = Line {
+            bytes: [0; LONGEST],
+            end: 0,
+        };
+        line.number(n);
+        line
     }
-    p
-}
 
-// A newline after the first n bytes, and they are written.
-pub fn end(out: &mut [u8], n: usize) {
-    if out.len() <= n {
-        return;
+    fn put(&mut self, bytes: &[u8]) {
+        let at = self.end;
+        if bytes.len() <= LONGEST - at {
+            let end = at + bytes.len();
+            self.bytes[at..end].copy_from_slice(bytes);
+            self.end = end;
+        }
     }
-    out[n] = b'\n';
-    io::write_all(1, &out[..n + 1]);
+
+    // A word, if it has any bytes.
+    pub fn word(&mut self, word: &[u8]) {
+        if word.is_empty() {
+            return;
+        }
+        if 0 < self.end {
+            self.put(b" ");
+        }
+        self.put(word);
+    }
+
+    pub fn number(&mut self, n: u64) {
+        let mut digits = [0; 20];
+        let count = io::decimal(n, &mut digits);
+        self.word(&digits[..count]);
+    }
+
+    pub fn numbers(&mut self, numbers: &[u64]) {
+        for n in numbers {
+            self.number(*n);
+        }
+    }
+
+    // The line is written, with a newline.
+    pub fn write(&mut self) {
+        self.put(b"\n");
+        io::write_all(1, &self.bytes[..self.end]);
+    }
 }

@@ -1,69 +1,62 @@
-// reference/FORMAT.md, "Cases" and "The last line": a case from standard input, and the line after the last. Calls (reference/CALLS.md) stand in a stream of the same form.
+// reference/FORMAT.md, "Cases" and "The last line": cases from standard input, and the line after the last. Calls (reference/CALLS.md) stand in a stream of the same form.
 use crate::given::place;
-use crate::judged::{Judged, judge};
+use crate::judged::Ended;
 
-// The next case or call, with its length in front: good where all its bytes are there.
-pub fn read_item(buf: &mut [u8]) -> Judged {
-    if buf.len() < 4 {
-        return Judged::Bounds;
-    }
+// The longest case or call, with its length field.
+const LONGEST: usize = 131_072;
+
+// The next case or call, with its length in front.
+fn read_item(buf: &mut [u8; LONGEST]) -> Result<&[u8], Ended> {
     let got = io::read_full(0, &mut buf[..4]);
     if got == 0 {
-        return Judged::End;
+        return Err(Ended::End);
     }
     if got < 4 {
-        return Judged::Cut;
+        return Err(Ended::Cut);
     }
     let n = place(buf, 0);
     if n == 0 {
-        return Judged::End;
+        return Err(Ended::End);
     }
-    if buf.len() < n {
-        return Judged::Bounds;
+    if LONGEST < n {
+        return Err(Ended::Bounds);
     }
     if n < 4 {
-        return Judged::Malformed;
+        return Err(Ended::Malformed);
     }
     if io::read_full(0, &mut buf[4..n]) < n - 4 {
-        return Judged::Cut;
+        return Err(Ended::Cut);
     }
-    Judged::Good
+    Ok(&buf[..n])
 }
 
-// The next case.
-pub fn read_case(buf: &mut [u8]) -> Judged {
-    let read = read_item(buf);
-    let Judged::Good = read else {
-        return read;
-    };
-    judge_first(buf, place(buf, 0))
-}
-
-// The first n bytes as a case.
-fn judge_first(buf: &[u8], n: usize) -> Judged {
-    if buf.len() < n {
-        return Judged::Bounds;
+// Answers each case or call of the stream, by its bytes and its number from 0, to the first that is broken or the end, and writes the line after the last.
+pub fn answer_each<F: FnMut(&[u8], u64) -> Result<(), Ended>>(mut answer: F)
+    requires { F.IsAlwaysCallable answer }
+{
+    let mut buf = [0; LONGEST];
+    for no in 0..1_000_000_000 {
+        // With `and_then` what it requires of its closure was not proved.
+        let answered = match read_item(&mut buf) {
+            Ok(item) => answer(item, no),
+            Err(ended) => Err(ended),
+        };
+        if let Err(ended) = answered {
+            show_end(ended, no);
+            return;
+        }
     }
-    judge(&buf[..n])
 }
 
 // The line after the last: of a good stream, or of one whose last case is broken.
-pub fn show_end(judged: Judged, no: u64) {
-    match judged {
-        Judged::End => {
-            io::write_all(1, b"end ");
-            io::print_decimal(1, no);
-            io::write_all(1, b"\n");
-        }
-        Judged::Cut => show_broken(no, b" cut\n"),
-        Judged::Bounds => show_broken(no, b" bounds\n"),
-        Judged::Malformed => show_broken(no, b" malformed\n"),
-        Judged::Good => {}
-    }
-}
-
-fn show_broken(no: u64, how: &[u8]) {
-    io::write_all(1, b"broken ");
+fn show_end(ended: Ended, no: u64) {
+    let (word, how): (&[u8], &[u8]) = match ended {
+        Ended::End => (b"end ", b"\n"),
+        Ended::Cut => (b"broken ", b" cut\n"),
+        Ended::Bounds => (b"broken ", b" bounds\n"),
+        Ended::Malformed => (b"broken ", b" malformed\n"),
+    };
+    io::write_all(1, word);
     io::print_decimal(1, no);
     io::write_all(1, how);
 }

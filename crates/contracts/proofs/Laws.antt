@@ -1,5 +1,6 @@
 -- Document 01, "Opcodes": one law for each shape of an instruction's tree: an access that is denied, an access that is granted and what follows,
 -- an end.
+use Rattle.std.proofs.Common.{Ok, Err}
 use Prim.Native.Nat.{ℕ}
 use mathlib.Core.Bool.{Bool, true, false}
 use mathlib.Core.List.{List, [], ◌∷◌, ◌++◌}
@@ -10,11 +11,13 @@ use Rattle.memory.proofs.Laws.{length-store}
 use Rattle.decode.specs.declared.SysOp.{SysOp}
 use Rattle.paging.specs.declared.Access.{Access}
 use Rattle.paging.specs.declared.Access.TheVariants.{Read, Write}
-use Rattle.paging.specs.declared.Answer.{Answer}
-use Rattle.paging.specs.declared.Answer.TheVariants.{At, Denied}
+use Rattle.paging.specs.Answer.{Answer}
 use Rattle.paging.specs.declared.Fault.{Fault}
 use Rattle.paging.specs.declared.Space.{Space}
+use Rattle.paging.specs.declared.TrapCode.{TrapCode}
 use Rattle.paging.specs.Walk.{is_write}
+use Rattle.mmu.specs.declared.bus.Bus.{Bus}
+use Rattle.mmu.specs.Bus.{SameBus}
 use Rattle.mmu.specs.Good.{Good}
 use Rattle.mmu.specs.Translates.{Translates}
 use Rattle.rules.specs.declared.Regs.{Regs}
@@ -45,7 +48,7 @@ module _ {s : Space} {user : Bool} {gs : List Grant} {m l : List ℕ} (g : Good 
   executes_unfetched h = record { same = rw h; good = g }
 
   -- a fault without an address, or TRAP
-  pub executes_trap : {r : Regs} {code : ℕ} → d ≡ bad r (end.Trap code) → Executes (done (trap code)) s user gs m l d m l
+  pub executes_trap : {r : Regs} {code : TrapCode} → d ≡ bad r (end.Trap code) → Executes (done (trap code)) s user gs m l d m l
   unfolding interpret made_by
   executes_trap h = record { same = rw h; good = g }
 
@@ -70,6 +73,11 @@ module _ {s : Space} {user : Bool} {gs : List Grant} {m l : List ℕ} (g : Good 
   unfolding interpret made_by store_all
   executes_stored {p = p} {n} {v} h e = record { same = rw (h, e, store_none gs (store_n n m p v)); good = rw (e, length-store n m p v) g }
 
+-- over the same bus, in the space and the mode that it had at first
+pub executes_same : {b b' : Bus} → SameBus b b' → {t : Tree Out} {gs : List Grant} {m l : List ℕ} {d : Done} {m' l' : List ℕ}
+    → Executes t b'.space b'.user gs m l d m' l' → Executes t b.space b.user gs m l d m' l'
+executes_same s h = rw (← s.space, ← s.user) h
+
 -- ---- accesses
 
 module _ {s : Space} {user : Bool} {gs : List Grant} {kind : Access} {n va : ℕ} {m l : List ℕ} {a : Answer} {m' l' : List ℕ}
@@ -80,19 +88,19 @@ module _ {s : Space} {user : Bool} {gs : List Grant} {kind : Access} {n va : ℕ
   executes_ask h = record { same = h.same ∙ sym (ap made (asked t k gs)); good = h.good }
 
   -- denied: the tree goes on with the fault
-  pub executes_not : {f : Fault} → a ≡ Denied f → Executes (k (denied f)) s user gs m' l' d m'' l''
+  pub executes_not : {f : Fault} → a ≡ Err f → Executes (k (denied f)) s user gs m' l' d m'' l''
       → Executes (ask (access kind n va) k) s user gs m l d m'' l''
   unfolding reply_to
   executes_not e h = executes_ask (rw e h)
 
   -- a read or fetch that is granted: the tree goes on with the bytes there
-  pub executes_got : {p v : ℕ} → is_write kind ≡ false → a ≡ At p → v ≡ load_n n m' p → Executes (k (got v)) s user gs m' l' d m'' l''
+  pub executes_got : {p v : ℕ} → is_write kind ≡ false → a ≡ Ok p → v ≡ load_n n m' p → Executes (k (got v)) s user gs m' l' d m'' l''
       → Executes (ask (access kind n va) k) s user gs m l d m'' l''
   unfolding reply_to
   executes_got w e f h = executes_ask (rw (e, w, ← f) h)
 
   -- a write that is granted: it is the latest granted write
-  pub executes_granted : {p : ℕ} → is_write kind ≡ true → a ≡ At p → Executes (k (got (load_n n m' p))) s user (grant p n ∷ gs) m' l' d m'' l''
+  pub executes_granted : {p : ℕ} → is_write kind ≡ true → a ≡ Ok p → Executes (k (got (load_n n m' p))) s user (grant p n ∷ gs) m' l' d m'' l''
       → Executes (ask (access kind n va) k) s user gs m l d m'' l''
   unfolding reply_to
   executes_granted w e h = executes_ask (rw (e, w) h)
@@ -100,29 +108,29 @@ module _ {s : Space} {user : Bool} {gs : List Grant} {kind : Access} {n va : ℕ
 -- ---- operands: "a fault ends the instruction"
 
 -- the fault that the code takes out of a denied access is the access's
-pub fault_told : {a : Answer} {x f : Fault} → a ≡ Denied x → f ≡ fault_of a → f ≡ x
+pub fault_told : {a : Answer} {x f : Fault} → a ≡ Err x → f ≡ fault_of a → f ≡ x
 fault_told e q = rw e at q
 
 module _ {s : Space} {user : Bool} {gs : List Grant} {n va : ℕ} {m l : List ℕ} {a : Answer} {m' l' : List ℕ} where
   -- an operand access that is denied
   pub executes_denied : {kind : Access} → Translates s (requested kind n va user) m l a m' l' → {k : ℕ → Tree Out}
-      {r : Regs} {x : Fault} {d : Done} → a ≡ Denied x → d ≡ refused_by r a → Executes (ask (access kind n va) (or_refused k)) s user gs m l d m' l'
+      {r : Regs} {x : Fault} {d : Done} → a ≡ Err x → d ≡ refused_by r a → Executes (ask (access kind n va) (or_refused k)) s user gs m l d m' l'
   executes_denied t e h = executes_not t _ e (executes_refused t.good (rw e at h))
 
   -- an operand that is read
   pub executes_read : Translates s (requested Read n va user) m l a m' l' → {k : ℕ → Tree Out} {p v : ℕ}
-      {d : Done} {m'' l'' : List ℕ} → a ≡ At p → v ≡ load_n n m' p → Executes (k v) s user gs m' l' d m'' l'' → Executes (reading n va k) s user gs m l d m'' l''
+      {d : Done} {m'' l'' : List ℕ} → a ≡ Ok p → v ≡ load_n n m' p → Executes (k v) s user gs m' l' d m'' l'' → Executes (reading n va k) s user gs m l d m'' l''
   unfolding is_write
   executes_read t e f h = executes_got t _ refl e f h
 
   -- an access for writing that is granted
   pub executes_write : Translates s (requested Write n va user) m l a m' l' → {k : ℕ → Tree Out} {p : ℕ}
-      {d : Done} {m'' l'' : List ℕ} → a ≡ At p → Executes (k (load_n n m' p)) s user (grant p n ∷ gs) m' l' d m'' l''
+      {d : Done} {m'' l'' : List ℕ} → a ≡ Ok p → Executes (k (load_n n m' p)) s user (grant p n ∷ gs) m' l' d m'' l''
       → Executes (ask (access Write n va) (or_refused k)) s user gs m l d m'' l''
   unfolding is_write
   executes_write t e h = executes_granted t _ refl e h
 
   -- the same with its store, to the end
   pub executes_written : Translates s (requested Write n va user) m l a m' l' → {r : Regs} {p v : ℕ}
-      {d : Done} {m'' : List ℕ} → a ≡ At p → d ≡ ok r → m'' ≡ store_n n m' p v → Executes (writing n va v r) s user gs m l d m'' l'
+      {d : Done} {m'' : List ℕ} → a ≡ Ok p → d ≡ ok r → m'' ≡ store_n n m' p v → Executes (writing n va v r) s user gs m l d m'' l'
   executes_written t e h q = executes_write t e (executes_stored t.good h q)

@@ -1,4 +1,5 @@
 -- Document 01, "One step" and "Traps": one law for each shape of a step's tree: an access, the two slots of a trap frame, an end.
+use Rattle.std.proofs.Common.{Ok, Err}
 use Prim.Native.Nat.{ℕ}
 use mathlib.Core.List.{List, [], ◌∷◌}
 use mathlib.Core.Path.{◌≡◌, refl, sym, ap, ◌∙◌}
@@ -7,10 +8,10 @@ use Rattle.memory.specs.Memory.{load_n, store_n}
 use Rattle.memory.proofs.Laws.{length-store}
 use Rattle.paging.specs.declared.Access.{Access}
 use Rattle.paging.specs.declared.Access.TheVariants.{Read}
-use Rattle.paging.specs.declared.Answer.{Answer}
-use Rattle.paging.specs.declared.Answer.TheVariants.{At, Denied}
+use Rattle.paging.specs.Answer.{Answer}
 use Rattle.paging.specs.declared.Fault.{Fault}
 use Rattle.paging.specs.declared.Space.{Space}
+use Rattle.paging.specs.declared.TrapCode.{TrapCode}
 use Rattle.paging.specs.Walk.{is_write}
 use Rattle.mmu.specs.Good.{Good}
 use Rattle.mmu.specs.Translates.{Kept, Translates, kept_in, translator}
@@ -63,7 +64,7 @@ module _ {k : Cpu} {con : List ℕ} {n va : ℕ} {m l : List ℕ} {a : Answer} {
     {c : Cpu} {m'' con'' l'' : List ℕ} where
   -- denied: the tree goes on with the fault
   pub finishes_denied : {kind : Access} → Translates k.space (requested kind n va k.system.user) m l a m' l'
-      → {x y : Fault} → a ≡ Denied x → y ≡ fault_of a → Finishes (f (denied y)) k m' con l' c m'' con'' l''
+      → {x y : Fault} → a ≡ Err x → y ≡ fault_of a → Finishes (f (denied y)) k m' con l' c m'' con'' l''
       → Finishes (ask (access kind n va) f) k m con l c m'' con'' l''
   unfolding reply_to finished
   finishes_denied t e q h =
@@ -71,7 +72,7 @@ module _ {k : Cpu} {con : List ℕ} {n va : ℕ} {m l : List ℕ} {a : Answer} {
 
   -- a read that is granted: the tree goes on with the bytes there
   pub finishes_read : Translates k.space (requested Read n va k.system.user) m l a m' l'
-      → {p v : ℕ} → a ≡ At p → v ≡ load_n n m' p → Finishes (f (got v)) k m' con l' c m'' con'' l''
+      → {p v : ℕ} → a ≡ Ok p → v ≡ load_n n m' p → Finishes (f (got v)) k m' con l' c m'' con'' l''
       → Finishes (ask (access Read n va) f) k m con l c m'' con'' l''
   unfolding reply_to is_write finished
   finishes_read t e q h = record { same = (rw q at h).same ∙ sym (ap (ending k con) (rw e at (asked t f []))); good = h.good }
@@ -81,21 +82,21 @@ module _ {k : Cpu} {con : List ℕ} {n va : ℕ} {m l : List ℕ} {a : Answer} {
 module _ {k : Cpu} {con : List ℕ} (x y : ℕ) {m l : List ℕ} {a : Answer} {m' l' : List ℕ} (f : Reply → Tree Final)
     (t : Translates k.space (slot x) m l a m' l') {c : Cpu} where
   -- the first is denied
-  pub finishes_first : {z : Fault} {m'' con'' l'' : List ℕ} → a ≡ Denied z → Finishes (f (denied z)) k m' con l' c m'' con'' l''
+  pub finishes_first : {z : Fault} {m'' con'' l'' : List ℕ} → a ≡ Err z → Finishes (f (denied z)) k m' con l' c m'' con'' l''
       → Finishes (ask (slots x y) f) k m con l c m'' con'' l''
   unfolding finished
   finishes_first e h = record { same = h.same ∙ sym (ap (ending k con) (slots_first k.space k.system.user x y t f [] e)); good = h.good }
 
-  module _ {p : ℕ} (e : a ≡ At p) {b : Answer} {m'' l'' : List ℕ} (u : Translates k.space (slot y) m' l' b m'' l'') where
+  module _ {p : ℕ} (e : a ≡ Ok p) {b : Answer} {m'' l'' : List ℕ} (u : Translates k.space (slot y) m' l' b m'' l'') where
     -- the second is denied
-    pub finishes_second : {z : Fault} {m''' con''' l''' : List ℕ} → b ≡ Denied z → Finishes (f (denied z)) k m'' con l'' c m''' con''' l'''
+    pub finishes_second : {z : Fault} {m''' con''' l''' : List ℕ} → b ≡ Err z → Finishes (f (denied z)) k m'' con l'' c m''' con''' l'''
         → Finishes (ask (slots x y) f) k m con l c m''' con''' l'''
     unfolding finished
     finishes_second d h =
         record { same = h.same ∙ sym (ap (ending k con) (slots_second k.space k.system.user x y t f [] u e d)); good = h.good }
 
     -- both are granted, and stored in order
-    pub finishes_both : {q v w code : ℕ} {r : Cpu} {m₁ m₂ : List ℕ} → b ≡ At q → f (got 0) ≡ final r (v ∷ w ∷ []) (deliver code)
+    pub finishes_both : {q v w : ℕ} {code : TrapCode} {r : Cpu} {m₁ m₂ : List ℕ} → b ≡ Ok q → f (got 0) ≡ final r (v ∷ w ∷ []) (deliver code)
         → c ≡ record_after k (deliver code) r → m₁ ≡ store_n 4 m'' p v → m₂ ≡ store_n 4 m₁ q w → Finishes (ask (slots x y) f) k m con l c m₂ con l''
     unfolding finished interpret store_all
     finishes_both {q} {v} {w} d g h i j =

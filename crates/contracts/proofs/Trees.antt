@@ -1,12 +1,12 @@
 -- Document 01, "One step" and "Addresses": trees of accesses, interpreted with the page buffer: an access that the code has translated, and one tree
 -- after another.
+use Rattle.std.proofs.Common.{Ok, Err}
 use Prim.Native.Nat.{ℕ}
 use mathlib.Core.Bool.{Bool}
 use mathlib.Core.List.{List, [], ◌∷◌, ◌++◌, append_assoc}
 use mathlib.Core.Path.{◌≡◌, ◌∙◌, refl, ap}
 use Rattle.paging.specs.declared.Access.{Access}
-use Rattle.paging.specs.declared.Answer.{Answer}
-use Rattle.paging.specs.declared.Answer.TheVariants.{At, Denied}
+use Rattle.paging.specs.Answer.{Answer}
 use Rattle.paging.specs.declared.Fault.{Fault}
 use Rattle.paging.specs.declared.Space.{Space}
 use Rattle.paging.specs.Event.{Event}
@@ -33,20 +33,20 @@ module _ {A : Type 0} {s : Space} {user : Bool} {kind : Access} {n va : ℕ} {m 
 
 -- a slot's outcome, from its answer, memory and buffer
 module _ (o : Outcome Kept Answer) {a : Answer} {m : List ℕ} {b : Kept} (h : result a m b ≡ seen o) where
-  first_denied : (s : Space) (y : ℕ) {f : Fault} → a ≡ Denied f → first_slot translator s y o o.answer ≡ outcome (replied (denied f) []) m b o.events
+  first_denied : (s : Space) (y : ℕ) {f : Fault} → a ≡ Err f → first_slot translator s y o o.answer ≡ outcome (replied (denied f) []) m b o.events
   unfolding first_slot
   first_denied s y e = rw (← ap (λ z. z.answer) h, e, ← ap (λ z. z.mem) h, ← ap (λ z. z.buffer) h)
 
-  first_granted : (s : Space) (y : ℕ) {p : ℕ} → a ≡ At p → first_slot translator s y o o.answer
+  first_granted : (s : Space) (y : ℕ) {p : ℕ} → a ≡ Ok p → first_slot translator s y o o.answer
       ≡ second_slot translator p o.events (translator.translate s (slot y) m b) (translator.translate s (slot y) m b).answer
   unfolding first_slot
   first_granted s y e = rw (← ap (λ z. z.answer) h, e, ← ap (λ z. z.mem) h, ← ap (λ z. z.buffer) h)
 
-  second_denied : (p : ℕ) (es : List Event) {f : Fault} → a ≡ Denied f → second_slot translator p es o o.answer ≡ outcome (replied (denied f) []) m b (es ++ o.events)
+  second_denied : (p : ℕ) (es : List Event) {f : Fault} → a ≡ Err f → second_slot translator p es o o.answer ≡ outcome (replied (denied f) []) m b (es ++ o.events)
   unfolding second_slot
   second_denied p es e = rw (← ap (λ z. z.answer) h, e, ← ap (λ z. z.mem) h, ← ap (λ z. z.buffer) h)
 
-  second_granted : (p : ℕ) (es : List Event) {q : ℕ} → a ≡ At q
+  second_granted : (p : ℕ) (es : List Event) {q : ℕ} → a ≡ Ok q
       → second_slot translator p es o o.answer ≡ outcome (replied (got 0) (grant p 4 ∷ grant q 4 ∷ [])) m b (es ++ o.events)
   unfolding second_slot
   second_granted p es e = rw (← ap (λ z. z.answer) h, e, ← ap (λ z. z.mem) h, ← ap (λ z. z.buffer) h)
@@ -62,23 +62,23 @@ module _ {A : Type 0} (s : Space) (user : Bool) (x y : ℕ) {m l : List ℕ} {a 
   first = translator.translate s (slot x) m (kept_in l)
 
   -- the first is denied
-  pub slots_first : {f : Fault} → a ≡ Denied f → interpret translator s user (ask (slots x y) k) m (kept_in l) gs
+  pub slots_first : {f : Fault} → a ≡ Err f → interpret translator s user (ask (slots x y) k) m (kept_in l) gs
       ≡ after (events_of s (slot x) m l) (interpret translator s user (k (denied f)) m' (kept_in l') gs)
   unfolding interpret answered goes_on
   slots_first e = ap goes_on (first_denied first t.same s y e)
 
-  module _ {b : Answer} {m'' l'' : List ℕ} (u : Translates s (slot y) m' l' b m'' l'') {p : ℕ} (e : a ≡ At p) where
+  module _ {b : Answer} {m'' l'' : List ℕ} (u : Translates s (slot y) m' l' b m'' l'') {p : ℕ} (e : a ≡ Ok p) where
     abbrev second : Outcome Kept Answer
     second = translator.translate s (slot y) m' (kept_in l')
 
     -- the second is denied
-    pub slots_second : {f : Fault} → b ≡ Denied f → interpret translator s user (ask (slots x y) k) m (kept_in l) gs
+    pub slots_second : {f : Fault} → b ≡ Err f → interpret translator s user (ask (slots x y) k) m (kept_in l) gs
         ≡ after (events_of s (slot x) m l ++ events_of s (slot y) m' l') (interpret translator s user (k (denied f)) m'' (kept_in l'') gs)
     unfolding interpret answered goes_on
     slots_second d = ap goes_on (first_granted first t.same s y e ∙ second_denied second u.same p first.events d)
 
     -- both are granted
-    pub slots_both : {q : ℕ} → b ≡ At q → interpret translator s user (ask (slots x y) k) m (kept_in l) gs
+    pub slots_both : {q : ℕ} → b ≡ Ok q → interpret translator s user (ask (slots x y) k) m (kept_in l) gs
         ≡ after (events_of s (slot x) m l ++ events_of s (slot y) m' l') (interpret translator s user (k (got 0)) m'' (kept_in l'') (grant p 4 ∷ grant q 4 ∷ gs))
     unfolding interpret answered goes_on
     slots_both d = ap goes_on (first_granted first t.same s y e ∙ second_granted second u.same p first.events d)

@@ -1,10 +1,11 @@
 -- Document 01, "How much a contract says", and document 02, item 7: what the functions over memory, page buffer and hint promise, to end as the tree of the rules says.
-use Rattle.std.specs.Prelude.{ℕ, ◌≡◌, Bool, List, [], length}
+use Rattle.std.specs.Prelude.{ℕ, ◌≡◌, Bool, List, [], length, Ok, Err}
 use Rattle.paging.specs.declared.Space.{Space}
 use Rattle.paging.specs.declared.Cause.TheVariants.{AddressBeyondMemory}
 use Rattle.paging.specs.declared.Fault.{Fault}
-use Rattle.paging.specs.declared.Answer.{Answer}
-use Rattle.paging.specs.declared.Answer.TheVariants.{At, Denied}
+use Rattle.paging.specs.declared.TrapCode.TheVariants.{Fmem}
+use Rattle.paging.specs.Answer.{Answer}
+use Rattle.mmu.specs.declared.bus.Bus.{Bus}
 use Rattle.mmu.specs.Good.{Good}
 use Rattle.mmu.specs.Translates.{Kept, Result, result, kept_in, translator}
 use Rattle.rules.specs.declared.Regs.{Regs}
@@ -36,8 +37,8 @@ abbrev pub float_bad : Regs → Floats → End → FloatDone
 float_bad r v e = record { regs = r; floats = v; end = e }
 
 abbrev pub fault_of : Answer → Fault
-fault_of (At p) = record { code = 0; cause = AddressBeyondMemory; address = 0 }
-fault_of (Denied f) = f
+fault_of (Ok p) = record { code = Fmem; cause = AddressBeyondMemory; address = 0 }
+fault_of (Err f) = f
 
 -- an operand access that was denied
 abbrev pub refused_by : Regs → Answer → Done
@@ -91,6 +92,13 @@ pub record Executes (t : Tree Out) (s : Space) (user : Bool) (gs : List Grant) (
 pub record FloatExecutes (t : Tree Out) (s : Space) (user : Bool) (gs : List Grant) (m l : List ℕ) (d : FloatDone) (m' l' : List ℕ) : Type 0 where
   pub same : result (float_out_of d) m' (kept_in l') ≡ made (interpret translator s user t m (kept_in l) gs)
   pub good : Good (length m') s.pdir l'
+
+-- the same over a bus, from b to b'
+abbrev pub ExecutesOn : Tree Out → Bus → Done → Bus → Type 0
+ExecutesOn t b d b' = Executes t b.space b.user [] b.mem.now b.tlb.now d b'.mem.now b'.tlb.now
+
+abbrev pub FloatExecutesOn : Tree Out → Bus → FloatDone → Bus → Type 0
+FloatExecutesOn t b d b' = FloatExecutes t b.space b.user [] b.mem.now b.tlb.now d b'.mem.now b'.tlb.now
 
 -- ---- a step, or the rest of one
 

@@ -6,7 +6,7 @@ ghost use Rattle.rules.specs.Record.{with_a, with_b, with_c, with_sp, with_pc};
 ghost use Rattle.contracts.specs.Contract.{ok, bad, fault_of, refused_by};
 
 use decode::SysOp;
-use paging::{Answer, Cause, Fault};
+use paging::{Cause, Fault, TrapCode};
 use rules::{Floats, Regs};
 
 #[derive(Clone, Copy)]
@@ -15,7 +15,7 @@ pub enum End {
     // The fetch was denied.
     Unfetched(Fault),
     // A fault without an address, or TRAP.
-    Trap(u16),
+    Trap(TrapCode),
     // An operand access was denied.
     Refused(Fault),
     // A privileged instruction, handled over the whole record.
@@ -25,7 +25,7 @@ pub enum End {
     Undecoded { pad: u32, word: u32 },
 }
 
-// What an instruction leaves: how it ended, and where it ended well the registers.
+// What an instruction leaves: how it ended, and where it ended well the registers. No Result: at the end of a run's loop, and where a step is settled, the registers count at every end.
 #[derive(Clone, Copy)]
 pub struct Done {
     pub regs: Regs,
@@ -50,7 +50,7 @@ pub fn regs(r: Regs, a: u32, b: u32, c: u32, sp: u32, pc: u32) -> Regs
         c,
         sp,
         pc,
-        count: r.count,
+        ..r
     }
 }
 
@@ -69,31 +69,30 @@ pub fn ended(r: Regs, e: End) -> Done
     Done { regs: r, end: e }
 }
 
-// The fault of a denied access.
-pub fn fault_of(a: Answer) -> Fault
+// The fault of a denied access. Document 01 names `let .. else` at each access, so the answer comes here whole.
+pub fn fault_of(a: Result<usize, Fault>) -> Fault
     ensures { result ≡ fault_of a }
 {
     match a {
-        Answer::At(_) => Fault {
-            code: 0,
+        Ok(_) => Fault {
+            code: TrapCode::Fmem,
             cause: Cause::AddressBeyondMemory,
             address: 0,
         },
-        Answer::Denied(f) => f,
+        Err(f) => f,
     }
 }
 
 // The end of an instruction whose operand access was denied. The fault is put together anew: copied whole, it keeps every instruction's end in memory.
-pub fn refused(r: Regs, a: Answer) -> Done
+pub fn refused(r: Regs, a: Result<usize, Fault>) -> Done
     ensures { result ≡ refused_by r a }
 {
     let f = fault_of(a);
-    let cause = f.cause;
     Done {
         regs: r,
         end: End::Refused(Fault {
             code: f.code,
-            cause,
+            cause: f.cause,
             address: f.address,
         }),
     }

@@ -1,10 +1,12 @@
 -- Document 02, item 7: "a NaN result .. is always 0x7FF8000000000000". A NaN pattern stands for `nan`, and an operation with a `nan` gives `nan`, a comparison false.
-use Rattle.std.proofs.Common.{◌≡◌, ℕ, zero, suc, ◌+◌, ◌*◌, ◌^◌, Bool, true, false, cond, not, ◌||◌, T, ltb, ℤ, pos, negsuc, sym, refl, ap, ◌∙◌, subst}
+use Rattle.std.proofs.Common.{◌≡◌, ℕ, zero, suc, ◌+◌, ◌*◌, ◌^◌, Bool, true, false, cond, not, T, ltb, ℤ, pos, negsuc, sym, refl, ap, ◌∙◌, subst, Option, None, Some}
 use lib.Ieee.{Float, Format, nan, inf, fin, binary64, prec, emax, low, odd, units, round, of_bits, to_bits, is_nan, nan_bits, of_int}
 use lib.Ieee.{neg, add, sub, mul, div, eq, lt, le, ne}
 use lib.Ieee.Bits.{nan_bits_is}
 use lib.Ieee.Fits.{round_is}
-use Rattle.word.proofs.BoolLaws.{neither}
+use Rattle.std.specs.Option.{MatchOption}
+use Rattle.std.proofs.lemmas.Option.{MatchOption-at_some, MatchOption-at_none}
+use Rattle.double.specs.Numbers.{numbers_of}
 use Rattle.double.specs.Arithmetic.{value_of, pattern_of}
 
 -- ---- which values are `nan`
@@ -98,24 +100,34 @@ pub ge_strict : Strict (λ v w. le w v) false
 unfolding le
 ge_strict = record { left = by_kind (λ v. le v nan) false refl (λ s. refl) (λ s m e. refl); right = λ v. refl }
 
--- ---- at two patterns, by the code's test of both
+-- the pattern of an operation's result
+pub patterns : {op : Float → Float → Float} → Strict op nan → Strict (λ v w. pattern_of (op v w)) 0x7FF8000000000000
+unfolding to_bits
+patterns s = record { left = λ v. ap pattern_of (s.left v); right = λ v. ap pattern_of (s.right v) }
 
-module _ (x y : ℕ) {some : Bool} (p : some ≡ (nan_bits binary64 x || nan_bits binary64 y)) where
-  -- one is a NaN's
-  pub strict_at : {R : Type 0} {op : Float → Float → R} {z : R} → Strict op z → some ≡ true → z ≡ op (value_of x) (value_of y)
-  strict_at {R} {op} {z} s q = sym (go (nan_bits binary64 x) refl (sym p ∙ q))
-    where
-      go : (a : Bool) → nan_bits binary64 x ≡ a → (a || nan_bits binary64 y) ≡ true → op (value_of x) (value_of y) ≡ z
-      go true e t = rw (reads_nan binary64 x e) (s.left (value_of y))
-      go false e t = rw (reads_nan binary64 y t) (s.right (value_of x))
+-- ---- at the values of two patterns, if neither is a NaN's
 
-  pub nan_result : {op : Float → Float → Float} → Strict op nan → some ≡ true → 0x7FF8000000000000 ≡ pattern_of (op (value_of x) (value_of y))
-  unfolding to_bits
-  nan_result s q = ap pattern_of (strict_at s q)
+module _ (x y : ℕ) where
+  -- one is
+  pub none_left : nan_bits binary64 x ≡ true → None ≡ numbers_of x y
+  unfolding numbers_of
+  none_left e = rw e refl
+
+  pub none_right : nan_bits binary64 x ≡ false → nan_bits binary64 y ≡ true → None ≡ numbers_of x y
+  unfolding numbers_of
+  none_right e f = rw (e, f) refl
 
   -- neither is
-  pub left_number : some ≡ false → T (not (nan_bits binary64 x))
-  left_number q = no_nan (neither (nan_bits binary64 x) (nan_bits binary64 y) (sym p ∙ q)).0
+  pub both_numbers : nan_bits binary64 x ≡ false → nan_bits binary64 y ≡ false → Some (value_of x, value_of y) ≡ numbers_of x y
+  unfolding numbers_of
+  both_numbers e f = rw (e, f) refl
 
-  pub right_number : some ≡ false → T (not (nan_bits binary64 y))
-  right_number q = no_nan (neither (nan_bits binary64 x) (nan_bits binary64 y) (sym p ∙ q)).1
+  -- what is z where one is a NaN's, and else an operation's result on the values
+  pub over_numbers : {R : Type 0} {g : Float → Float → R} {z : R} → Strict g z → (P : Float × Float → Type 0) (r : R) (o : Option (Float × Float))
+      → o ≡ numbers_of x y → MatchOption o (r ≡ z) P → ((q : Float × Float) → P q → r ≡ g q.0 q.1) → r ≡ g (value_of x) (value_of y)
+  over_numbers {R} {g} {z} s P r o e m k = go (nan_bits binary64 x) (nan_bits binary64 y) refl refl
+    where
+      go : (a b : Bool) → nan_bits binary64 x ≡ a → nan_bits binary64 y ≡ b → r ≡ g (value_of x) (value_of y)
+      go true b p q = MatchOption-at_none (r ≡ z) P (e ∙ sym (none_left p)) m ∙ sym (rw (reads_nan binary64 x p) (s.left (value_of y)))
+      go false true p q = MatchOption-at_none (r ≡ z) P (e ∙ sym (none_right p q)) m ∙ sym (rw (reads_nan binary64 y q) (s.right (value_of x)))
+      go false false p q = k (value_of x, value_of y) (MatchOption-at_some (r ≡ z) P (value_of x, value_of y) (e ∙ sym (both_numbers p q)) m)

@@ -3,3 +3,4 @@ pub mod Comparison
 pub mod Single
 pub mod Whole
 pub mod NextWhole
+pub mod Numbers

@@ -6,8 +6,7 @@ use Rattle.std.specs.Float.Ieee.{up, down, round, of_int}
 use Rattle.std.specs.Int.{w32}
 use Rattle.std.proofs.Common.{to_z}
 use Rattle.word.specs.Magnitude.{with_sign}
-use Rattle.double.specs.declared.Cut.{Cut}
-use Rattle.double.specs.declared.Cut.TheVariants.{Unfit, Fits}
+use Rattle.std.specs.Prelude.{Option, None, Some}
 use Rattle.double.specs.Arithmetic.{value_of, pattern_of}
 
 -- CID, CUD: exact, since a double holds every 32-bit number
@@ -25,16 +24,16 @@ abbrev pub has_fraction : ℕ → ℤ → Bool
 has_fraction m e = not (m * up e % down e == 0)
 
 -- CDI: the word, if the number fits after it is cut
-unfoldable pub cut_signed : Float → Cut
-cut_signed nan = Unfit
-cut_signed (inf s) = Unfit
-cut_signed (fin s m e) = if nat_lt (whole_part m e) (if s then 2 ^ 31 + 1 else 2 ^ 31) then Fits (with_sign s (whole_part m e)) else Unfit
+unfoldable pub cut_signed : Float → Option ℕ
+cut_signed nan = None
+cut_signed (inf s) = None
+cut_signed (fin s m e) = if nat_lt (whole_part m e) (if s then 2 ^ 31 + 1 else 2 ^ 31) then Some (with_sign s (whole_part m e)) else None
 
 -- CDU
-unfoldable pub cut_unsigned : Float → Cut
-cut_unsigned nan = Unfit
-cut_unsigned (inf s) = Unfit
-cut_unsigned (fin s m e) = if nat_lt (whole_part m e) (if s then 1 else 2 ^ 32) then Fits (whole_part m e) else Unfit
+unfoldable pub cut_unsigned : Float → Option ℕ
+cut_unsigned nan = None
+cut_unsigned (inf s) = None
+cut_unsigned (fin s m e) = if nat_lt (whole_part m e) (if s then 1 else 2 ^ 32) then Some (whole_part m e) else None
 
 -- the whole number at or next to m * 2 ^ e: away from zero where `away` and something is cut
 abbrev pub whole_by : Bool → ℕ → ℤ → ℕ

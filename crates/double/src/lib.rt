@@ -1,12 +1,10 @@
-// Document 02, item 7: doubles. A number is its 64-bit pattern; an f64 exists only within a function, after its NaN test.
+// Document 02, item 7: doubles. A number is its 64-bit pattern; an f64 is made only of a pattern that is no NaN's.
 #![tactic(auto)]
 
 ghost use Rattle.std.specs.Prelude.{◌≡◌, ◌*◌, ◌^◌, ◌<◌, ◌≤◌, ◌||◌, pos, if◌then◌else◌};
 ghost use Rattle.std.specs.Float.Ieee.{nan_bits, to_unsigned, of_int};
 ghost use Rattle.std.specs.Float.{binary32, binary64};
-ghost use Rattle.std.specs.Int.{w32};
-ghost use Rattle.std.proofs.Common.{to_z};
-ghost use Rattle.word.specs.Magnitude.{with_sign};
+ghost use Rattle.double.specs.Numbers.{numbers_of};
 ghost use Rattle.double.specs.Arithmetic.{value_of, pattern_of, sum_of, difference_of, product_of, quotient_of, absolute_of};
 ghost use Rattle.double.specs.Comparison.{equals, less, at_least};
 ghost use Rattle.double.specs.Single.{double_of};
@@ -22,34 +20,30 @@ const SIGN: u64 = 0x8000_0000_0000_0000;
 // The pattern of 2^52: from there on a magnitude has no fraction. Infinity and NaN are above it too.
 const TWO_52: u64 = 0x4330_0000_0000_0000;
 
-// A word cut from a double, if it fits one.
-#[derive(Clone, Copy)]
-pub enum Cut {
-    Unfit,
-    Fits(u32),
-}
-
 // ---- patterns
 
-// Whether a pattern is a NaN's: its magnitude is above infinity's.
+// Whether a pattern is a NaN's: its magnitude is above infinity's. Not by the library's method: a pattern is tested before an f64 is made of it.
 fn is_nan(x: u64) -> bool
     ensures { result ≡ nan_bits binary64 x }
 {
     0x7FF0_0000_0000_0000 < x % SIGN
 }
 
-// The same of a single.
+// The same of a single; by its pattern too, before an f32 is made.
 fn is_nan_single(w: u32) -> bool
     ensures { result ≡ nan_bits binary32 w }
 {
     0x7F80_0000 < w % 0x8000_0000
 }
 
-// Whether one of two is a NaN.
-fn some_nan(x: u64, y: u64) -> bool
-    ensures { result ≡ (nan_bits binary64 x || nan_bits binary64 y) }
+// The values of two patterns, if neither is a NaN's.
+fn numbers(x: u64, y: u64) -> Option<(f64, f64)>
+    ensures { result ≡ numbers_of x y }
 {
-    is_nan(x) | is_nan(y)
+    if is_nan(x) || is_nan(y) {
+        return None;
+    }
+    Some((f64::from_bits(x), f64::from_bits(y)))
 }
 
 // The pattern of a value; one pattern for every NaN.
@@ -72,40 +66,28 @@ fn canonical(x: u64) -> u64
 pub fn add(x: u64, y: u64) -> u64
     ensures { result ≡ sum_of x y }
 {
-    if some_nan(x, y) {
-        return NAN;
-    }
-    bits(f64::from_bits(x) + f64::from_bits(y))
+    numbers(x, y).map_or(NAN, |(v, w)| bits(v + w))
 }
 
 // SUBF
 pub fn sub(x: u64, y: u64) -> u64
     ensures { result ≡ difference_of x y }
 {
-    if some_nan(x, y) {
-        return NAN;
-    }
-    bits(f64::from_bits(x) - f64::from_bits(y))
+    numbers(x, y).map_or(NAN, |(v, w)| bits(v - w))
 }
 
 // MULF
 pub fn mul(x: u64, y: u64) -> u64
     ensures { result ≡ product_of x y }
 {
-    if some_nan(x, y) {
-        return NAN;
-    }
-    bits(f64::from_bits(x) * f64::from_bits(y))
+    numbers(x, y).map_or(NAN, |(v, w)| bits(v * w))
 }
 
 // DIVF: by zero too, an infinity, or the NaN of 0 by 0.
 pub fn div(x: u64, y: u64) -> u64
     ensures { result ≡ quotient_of x y }
 {
-    if some_nan(x, y) {
-        return NAN;
-    }
-    bits(f64::from_bits(x) / f64::from_bits(y))
+    numbers(x, y).map_or(NAN, |(v, w)| bits(v / w))
 }
 
 // FABS: the sign is dropped; a NaN gives NAN.
@@ -121,30 +103,21 @@ pub fn absolute(x: u64) -> u64
 pub fn equal(x: u64, y: u64) -> bool
     ensures { result ≡ equals x y }
 {
-    if some_nan(x, y) {
-        return false;
-    }
-    f64::from_bits(x) == f64::from_bits(y)
+    numbers(x, y).is_some_and(|(v, w)| v == w)
 }
 
 // LTF
 pub fn less(x: u64, y: u64) -> bool
     ensures { result ≡ less x y }
 {
-    if some_nan(x, y) {
-        return false;
-    }
-    f64::from_bits(x) < f64::from_bits(y)
+    numbers(x, y).is_some_and(|(v, w)| v < w)
 }
 
 // GEF: false of a NaN, so not the negation of LTF.
 pub fn at_least(x: u64, y: u64) -> bool
     ensures { result ≡ at_least x y }
 {
-    if some_nan(x, y) {
-        return false;
-    }
-    f64::from_bits(x) >= f64::from_bits(y)
+    numbers(x, y).is_some_and(|(v, w)| v >= w)
 }
 
 // ---- singles
@@ -169,22 +142,11 @@ fn of_whole(n: u64) -> u64
     f64::to_bits(n as f64)
 }
 
-// The signed number that a word stands for.
-fn signed(a: u32) -> i32
-    ensures { result ≡ to_z w32 a }
-{
-    if a < 0x8000_0000 {
-        a as i32
-    } else {
-        !((!a) as i32)
-    }
-}
-
 // CID: a double holds every signed word.
 pub fn of_signed(a: u32) -> u64
     ensures { result ≡ of_signed a }
 {
-    f64::to_bits(signed(a) as f64)
+    f64::to_bits(a.cast_signed() as f64)
 }
 
 // CUD: and every unsigned one.
@@ -209,41 +171,36 @@ fn limit(minus: bool, negative: u64, positive: u64) -> u64
     if minus { negative } else { positive }
 }
 
-// A magnitude with its sign put back.
-fn with_sign(minus: bool, m: u32) -> u32
-    ensures { result ≡ with_sign minus m }
-{
-    if minus { word::difference(0, m) } else { m }
-}
+// CDI and CDU differ in limits, word and rule: one function for both would be as long, with each as a parameter.
 
 // CDI: the number is cut first and judged then, so that -2^31 - 0.9 fits.
-pub fn cut_signed(x: u64) -> Cut
+pub fn cut_signed(x: u64) -> Option<u32>
     ensures { result ≡ cut_signed (value_of x) }
 {
     let m = x % SIGN;
     if TWO_52 <= m {
-        return Cut::Unfit;
+        return None;
     }
     let n = whole(m);
     if limit(x >= SIGN, 0x8000_0001, 0x8000_0000) <= n {
-        return Cut::Unfit;
+        return None;
     }
-    Cut::Fits(with_sign(x >= SIGN, n as u32))
+    Some(word::with_sign(x >= SIGN, n as u32))
 }
 
 // CDU: likewise -0.9 fits, and gives 0.
-pub fn cut_unsigned(x: u64) -> Cut
+pub fn cut_unsigned(x: u64) -> Option<u32>
     ensures { result ≡ cut_unsigned (value_of x) }
 {
     let m = x % SIGN;
     if TWO_52 <= m {
-        return Cut::Unfit;
+        return None;
     }
     let n = whole(m);
     if limit(x >= SIGN, 1, 0x1_0000_0000) <= n {
-        return Cut::Unfit;
+        return None;
     }
-    Cut::Fits(n as u32)
+    Some(n as u32)
 }
 
 // The whole number at x or next to it: away from zero where `away`, else toward it. Its sign is x's, of a zero too.

@@ -5,13 +5,14 @@ use native.Mathlib.Numerals.{add-one}
 use native.Mathlib.Omega.{arith}
 use mathlib.Core.Bool.{Bool, true, false}
 use mathlib.Core.List.{List, [], ◌∷◌, ◌++◌, append-nil, append_assoc}
-use mathlib.Core.Path.{◌≡◌, refl, sym, ◌∙◌, ap, subst}
+use mathlib.Core.Path.{◌≡◌, refl, sym, ◌∙◌, ap}
 use lib.ListN.{length, get_or, take, set, replicate, length-append}
 use lib.Seq.{append_snoc, set_at}
 use Rattle.paging.specs.declared.Entry.{Entry}
 use Rattle.rules.specs.Load.{zero_entry}
-use Rattle.text.specs.Written.{Written}
-use Rattle.text.proofs.Laws.{written_then}
+use Rattle.text.specs.declared.Writer.{Writer}
+use Rattle.text.specs.Adds.{Adds}
+use Rattle.text.proofs.Laws.{nothing_added, adds_then, adds_as}
 use Rattle.encoding.specs.Encoding.{encoded, little_endian}
 use Rattle.encoding.specs.Entries.{entry_longs, entry_bytes, entry_numbers, encoded_entries, entry_in, entries_in, rights_are, rights_ok, slots_in}
 
@@ -36,26 +37,24 @@ entries_snoc (suc i) (e ∷ es) h =
     ap (λ (t : List ℕ). encoded entry_longs (entry_numbers e) ++ t) (entries_snoc i es (le_of_suc-le-suc h))
     ∙ sym (append_assoc (encoded entry_longs (entry_numbers e)) (encoded_entries (take i es)) (encoded entry_longs (entry_numbers (get_or es i zero_entry))))
 
-pub record Putting (es : List Entry) (f₀ : List ℕ) (at i : ℕ) (f : List ℕ) (p : ℕ) : Type 0 where
-  pub written : Written (encoded_entries (take i es)) f₀ at f p
-  pub place : p ≡ at + entry_bytes * i
-  pub size : length f ≡ length f₀
+pub record Putting (es : List Entry) (w₀ : Writer) (i : ℕ) (w : Writer) : Type 0 where
+  pub adds : Adds (encoded_entries (take i es)) w₀ w
+  pub place : w.end ≡ w₀.end + entry_bytes * i
 
-module _ {es : List Entry} {f₀ : List ℕ} {at : ℕ} where
-  pub putting_start : Putting es f₀ at 0 f₀ at
+module _ {es : List Entry} {w₀ : Writer} where
+  pub putting_start : Putting es w₀ 0 w₀
   unfolding encoded_entries
-  putting_start = record { written = record { end = omega arith; front = rw append-nil; rest = refl }; place = omega arith; size = refl }
+  putting_start = record { adds = nothing_added w₀; place = omega arith }
 
-  pub putting_on : {i p r : ℕ} {f f' : List ℕ} → i < length es → Putting es f₀ at i f p
-      → Written (encoded entry_longs (entry_numbers (get_or es i zero_entry))) f p f' r → length f' ≡ length f → Putting es f₀ at (i + 1) f' r
-  putting_on {i} {p} {r} {f} {f'} l h w s = record {
-    written = rw (add-one i) (subst (λ (x : List ℕ). Written x f₀ at f' r) (sym (entries_snoc i es l)) (written_then h.written w));
-    place = omega (arith, w.end, length-entry (get_or es i zero_entry), h.place);
-    size = s ∙ h.size;
+  pub putting_on : {i : ℕ} {w w' : Writer} → i < length es → Putting es w₀ i w → Adds (encoded entry_longs (entry_numbers (get_or es i zero_entry))) w w'
+      → Putting es w₀ (i + 1) w'
+  putting_on {i} l h a = record {
+    adds = rw (add-one i) (adds_as (sym (entries_snoc i es l)) (adds_then h.adds a));
+    place = omega (arith, a.written.end, length-entry (get_or es i zero_entry), h.place);
   }
 
-  pub putting_end : {n i p : ℕ} {f : List ℕ} → i ≤ n → n ≤ i → Putting es f₀ at i f p → Written (encoded_entries (take n es)) f₀ at f p
-  putting_end {n} {i} l k h = let e : i ≡ n = omega arith in rw e at h.written
+  pub putting_end : {n i : ℕ} {w : Writer} → i ≤ n → n ≤ i → Putting es w₀ i w → Adds (encoded_entries (take n es)) w₀ w
+  putting_end {n} {i} l k h = let e : i ≡ n = omega arith in rw e at h.adds
 
 -- ---- entries read: i of them, and zeros after them
 
@@ -84,7 +83,7 @@ slots_end f at n i h l k = let e : i ≡ n = omega arith in rw e at k
 
 -- ---- rights tested: those from the i-th entry on decide
 
-pub rights_start : (f : List ℕ) (at n : ℕ) → rights_ok n f at ≡ rights_ok (n - 0) f (at + entry_bytes * 0)
+rights_start : (f : List ℕ) (at n : ℕ) → rights_ok n f at ≡ rights_ok (n - 0) f (at + entry_bytes * 0)
 rights_start f at n = let a : n - 0 ≡ n = omega arith in let b : at + entry_bytes * 0 ≡ at = omega arith in rw (a, b)
 
 module _ (f : List ℕ) (at n i : ℕ) (h : i < n) where

@@ -1,14 +1,16 @@
 -- Document 02, item 5: "an entry: page, frame, user right, write right", a word each.
-use Rattle.std.specs.Prelude.{ℕ, zero, suc, ◌+◌, ◌-◌, Bool, true, false, ◌&&◌, List, [], ◌∷◌, ◌++◌, leb, replicate}
+use Rattle.std.specs.Prelude.{ℕ, zero, suc, ◌+◌, ◌-◌, Bool, true, ◌&&◌, List, [], ◌∷◌, ◌++◌, leb, replicate}
 use Rattle.memory.specs.Memory.{load_n}
 use Rattle.paging.specs.declared.Entry.{Entry}
 use Rattle.rules.specs.Arithmetic.{flag}
 use Rattle.rules.specs.Numbers.{flag_of}
 use Rattle.rules.specs.Load.{zero_entry}
+use Rattle.encoding.specs.declared.Width.{Width}
+use Rattle.encoding.specs.declared.Width.TheVariants.{Four}
 use Rattle.encoding.specs.Encoding.{encoded}
 
-abbrev pub entry_longs : List Bool
-entry_longs = false ∷ false ∷ false ∷ false ∷ []
+abbrev pub entry_longs : List Width
+entry_longs = Four ∷ Four ∷ Four ∷ Four ∷ []
 
 -- the bytes of an entry
 abbrev pub entry_bytes : ℕ

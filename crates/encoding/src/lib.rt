@@ -3,12 +3,13 @@
 
 ghost use Rattle.std.specs.Prelude.{◌+◌, ◌*◌, ◌^◌, ◌≤◌, ◌<◌, ◌≡◌, length, take};
 ghost use Rattle.memory.specs.Memory.{load_n};
-ghost use Rattle.text.specs.Written.{Written};
+ghost use Rattle.text.specs.Adds.{Adds, Room};
 ghost use Rattle.encoding.specs.Encoding.{width, widths, little_endian, encoded, Decoded};
 ghost use Rattle.encoding.specs.Entries.{entry_longs, entry_bytes, entry_numbers, encoded_entries, entry_in, rights_are, rights_ok, slots_in};
 
 use paging::Entry;
 use record_numbers::flag;
+use text::Writer;
 
 // The bytes of an entry.
 pub const ENTRY: usize = 16;
@@ -16,88 +17,89 @@ pub const ENTRY: usize = 16;
 // ---- numbers
 
 // The bytes that a number takes.
-fn width(long: bool) -> usize
-    ensures { result ≡ width long }
-{
-    if long { 8 } else { 4 }
+#[derive(Clone, Copy)]
+pub enum Width {
+    Four,
+    Eight,
 }
 
-// A number, in its width. The result is the place after it.
-fn put_number(file: &mut [u8], at: usize, long: bool, v: u64) -> usize
-    requires { at + width long ≤ length file.old }
-    ensures { Written (little_endian (width long) v) file.old at file.new result }
-{
-    if long {
-        memory::store8(file, at, v);
-        return at + 8;
+impl Width {
+    fn bytes(self) -> usize
+        ensures { result ≡ width self }
+    {
+        match self {
+            Width::Four => 4,
+            Width::Eight => 8,
+        }
     }
-    memory::store4(file, at, (v % 0x1_0000_0000) as u32);
-    at + 4
+}
+
+// A number, in its width.
+fn put_number(file: &mut Writer, w: Width, v: u64)
+    requires { Room (width w) file.old }
+    ensures { Adds (little_endian (width w) v) file.old file.new }
+{
+    match w {
+        Width::Four => file.put(&((v % 0x1_0000_0000) as u32).to_le_bytes()),
+        Width::Eight => file.put(&v.to_le_bytes()),
+    }
 }
 
 // The number at a place.
-fn number_at(file: &[u8], at: usize, long: bool) -> u64
-    requires { at + width long ≤ length file.now }
-    ensures { (result ≡ load_n (width long) file.now at) × (result < 256 ^ width long) }
+fn number_at(file: &[u8], at: usize, w: Width) -> u64
+    requires { at + width w ≤ length file.now }
+    ensures { (result ≡ load_n (width w) file.now at) × (result < 256 ^ width w) }
 {
-    if long {
-        return memory::load8(file, at);
+    match w {
+        Width::Four => memory::load4(file, at) as u64,
+        Width::Eight => memory::load8(file, at),
     }
-    memory::load4(file, at) as u64
 }
 
-// Numbers, each in its width. The result is the place after the last.
-pub fn put_numbers(file: &mut [u8], at: usize, longs: &[bool], numbers: &[u64]) -> usize
-    requires { (length numbers.now ≡ length longs.now) × (at + widths longs.now ≤ length file.old) }
-    ensures { Written (encoded longs.now numbers.now) file.old at file.new result }
+// The numbers and their widths are lists side by side, as in `encoded` and `decoded`; the widths alone say how numbers are read.
+
+// Numbers, each in its width.
+pub fn put_numbers(file: &mut Writer, ws: &[Width], numbers: &[u64])
+    requires { (length numbers.now ≡ length ws.now) × Room (widths ws.now) file.old }
+    ensures { Adds (encoded ws.now numbers.now) file.old file.new }
 {
-    let mut p = at;
-    let mut i = 0;
-    while i < longs.len() {
-        p = put_number(file, p, longs[i], numbers[i]);
-        i += 1;
+    for (i, w) in ws.iter().enumerate() {
+        put_number(file, *w, numbers[i]);
     }
-    p
 }
 
 // The numbers from a place on.
-pub fn numbers_at(file: &[u8], at: usize, longs: &[bool], numbers: &mut [u64])
-    requires { (length numbers.old ≡ length longs.now) × (at + widths longs.now ≤ length file.now) }
-    ensures { Decoded longs.now file.now at numbers.new }
+pub fn numbers_at(file: &[u8], at: usize, ws: &[Width], numbers: &mut [u64])
+    requires { (length numbers.old ≡ length ws.now) × (at + widths ws.now ≤ length file.now) }
+    ensures { Decoded ws.now file.now at numbers.new }
 {
     let mut p = at;
-    let mut i = 0;
-    while i < longs.len() {
-        numbers[i] = number_at(file, p, longs[i]);
-        p += width(longs[i]);
-        i += 1;
+    for (i, w) in ws.iter().enumerate() {
+        numbers[i] = number_at(file, p, *w);
+        p += w.bytes();
     }
 }
 
 // ---- entries
 
-// An entry. The result is the place after it.
-fn put_entry(file: &mut [u8], at: usize, e: Entry) -> usize
-    requires { at + entry_bytes ≤ length file.old }
-    ensures { Written (encoded entry_longs (entry_numbers e)) file.old at file.new result }
+// An entry.
+fn put_entry(file: &mut Writer, e: Entry)
+    requires { Room entry_bytes file.old }
+    ensures { Adds (encoded entry_longs (entry_numbers e)) file.old file.new }
 {
-    let longs = [false; 4];
+    let widths = [Width::Four; 4];
     let numbers = [e.page as u64, e.frame as u64, flag(e.user), flag(e.write)];
-    put_numbers(file, at, &longs, &numbers)
+    put_numbers(file, &widths, &numbers);
 }
 
-// The first n slots. The result is the place after the last.
-pub fn put_entries(file: &mut [u8], at: usize, slots: [Entry; 64], n: usize) -> usize
-    requires { (n ≤ 64) × (at + entry_bytes * n ≤ length file.old) }
-    ensures { Written (encoded_entries (take n slots)) file.old at file.new result }
+// The first n slots.
+pub fn put_entries(file: &mut Writer, slots: [Entry; 64], n: usize)
+    requires { (n ≤ 64) × Room (entry_bytes * n) file.old }
+    ensures { Adds (encoded_entries (take n slots)) file.old file.new }
 {
-    let mut p = at;
-    let mut i = 0;
-    while i < n {
-        p = put_entry(file, p, slots[i]);
-        i += 1;
+    for i in 0..n {
+        put_entry(file, slots[i]);
     }
-    p
 }
 
 // The entry at a place.
@@ -124,10 +126,8 @@ pub fn slots_at(file: &[u8], at: usize, n: usize) -> [Entry; 64]
         user: false,
         write: false,
     }; 64];
-    let mut i = 0;
-    while i < n {
+    for i in 0..n {
         slots[i] = entry_at(file, at + ENTRY * i);
-        i += 1;
     }
     slots
 }
@@ -145,13 +145,10 @@ pub fn rights_ok(file: &[u8], at: usize, n: usize) -> bool
     requires { (n ≤ 64) × (at + entry_bytes * n ≤ length file.now) }
     ensures { result ≡ rights_ok n file.now at }
 {
-    let mut i = 0;
-    while i < n {
-        let ok = rights_are(file, at + ENTRY * i);
-        if !ok {
+    for i in 0..n {
+        if !rights_are(file, at + ENTRY * i) {
             return false;
         }
-        i += 1;
     }
     true
 }

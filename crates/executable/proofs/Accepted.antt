@@ -1,7 +1,8 @@
 -- Document 01, "Numbers returned": what holds of a file that is accepted, and of the memory that it is loaded into: no test refused it.
-use Rattle.std.proofs.Common.{if◌then◌else◌}
+use Rattle.std.specs.Result.{is_err}
+use Rattle.std.proofs.Common.{if◌then◌else◌, Result, Ok, Err}
 use Prim.Native.Nat.{ℕ, ◌+◌, ◌-◌, ◌%◌, ◌<◌, ◌≤◌}
-use mathlib.Core.Bool.{Bool, true, false, ◌&&◌}
+use mathlib.Core.Bool.{Bool, true, false, ◌&&◌, true≢false}
 use mathlib.Core.List.{List}
 use mathlib.Core.Path.{◌≡◌, refl}
 use native.Mathlib.Omega.{arith}
@@ -10,24 +11,29 @@ use lib.Dec.{eqb, ltb, leb}
 use lib.ListN.{length}
 use Rattle.word.proofs.BoolLaws.{both}
 use Rattle.memory.specs.Memory.{size_ok}
-use Rattle.executable.specs.declared.LoadAnswer.{LoadAnswer}
-use Rattle.executable.specs.declared.LoadAnswer.TheVariants.{Accepted, BadSize, ShortFile, BadMagic, BadBody, BadDataStart, BadEntry}
+use Rattle.executable.specs.declared.LoadRefusal.{LoadRefusal}
+use Rattle.executable.specs.declared.LoadRefusal.TheVariants.{BadSize, ShortFile, BadMagic, BadBody, BadDataStart, BadEntry}
 use Rattle.executable.specs.Executable.{load_number, magic_of, entry_of, data_start_of, body_ok, entry_ok, load_answer}
 
 -- a choice whose other side is a refusal
-chosen : (t : Bool) (x y : LoadAnswer) → 0 < load_number y → (if t then x else y) ≡ Accepted → (t ≡ true) × (x ≡ Accepted)
+chosen : (t : Bool) (x y : Result Unit LoadRefusal) → 0 < load_number y → (if t then x else y) ≡ Ok tt → (t ≡ true) × (x ≡ Ok tt)
 chosen true x y r e = (refl, e)
-chosen false x y r e = let z : 0 < load_number Accepted = rw e at r in absurd (omega arith)
+chosen false x y r e = let z : 0 < load_number (Ok tt) = rw e at r in absurd (omega arith)
 
 -- the answer of number 0 is the accepting one
-pub accepting : (a : LoadAnswer) → load_number a ≡ 0 → a ≡ Accepted
-accepting Accepted e = refl
-accepting BadSize e = absurd (omega arith)
-accepting ShortFile e = absurd (omega arith)
-accepting BadMagic e = absurd (omega arith)
-accepting BadBody e = absurd (omega arith)
-accepting BadDataStart e = absurd (omega arith)
-accepting BadEntry e = absurd (omega arith)
+pub accepting : (a : Result Unit LoadRefusal) → load_number a ≡ 0 → a ≡ Ok tt
+accepting (Ok tt) e = refl
+accepting (Err BadSize) e = absurd (omega arith)
+accepting (Err ShortFile) e = absurd (omega arith)
+accepting (Err BadMagic) e = absurd (omega arith)
+accepting (Err BadBody) e = absurd (omega arith)
+accepting (Err BadDataStart) e = absurd (omega arith)
+accepting (Err BadEntry) e = absurd (omega arith)
+
+-- an answer that is no refusal
+pub unrefused : {E : Type 0} (a : Result Unit E) → is_err a ≡ false → a ≡ Ok tt
+unrefused (Ok tt) h = refl
+unrefused (Err e) h = absurd (true≢false h)
 
 -- what an accepted file and its memory have
 pub record Fit (size : ℕ) (file : List ℕ) : Type 0 where
@@ -40,7 +46,7 @@ pub record Fit (size : ℕ) (file : List ℕ) : Type 0 where
   pub entry : entry_of file % 4 ≡ 0
   pub text : entry_of file + 4 ≤ data_start_of file
 
-pub fit : (size : ℕ) (file : List ℕ) → load_answer size file ≡ Accepted → Fit size file
+pub fit : (size : ℕ) (file : List ℕ) → load_answer size file ≡ Ok tt → Fit size file
 unfolding load_answer size_ok
 fit size file e =
     let sized = chosen (size_ok size) _ _ (omega arith) e in

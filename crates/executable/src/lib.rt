@@ -4,30 +4,24 @@
 ghost use Rattle.std.specs.Prelude.{◌≡◌, ◌+◌, ◌-◌};
 ghost use Rattle.executable.specs.Executable.{load_number, body_ok, entry_ok, load_answer};
 
-// What a load answers.
-#[derive(Clone, Copy)]
-pub enum LoadAnswer {
-    Accepted,
-    BadSize,
-    ShortFile,
-    BadMagic,
-    BadBody,
-    BadDataStart,
-    BadEntry,
+// Why a load is refused, by number.
+#[derive(Clone, Copy, Debug, PartialEq, Eq)]
+pub enum LoadRefusal {
+    BadSize = 1,
+    ShortFile = 7,
+    BadMagic = 8,
+    BadBody = 9,
+    BadDataStart = 10,
+    BadEntry = 11,
 }
 
-// The number of an answer.
-pub fn load_number(answer: LoadAnswer) -> u32
+// The number of an answer, 0 of an accepted load.
+pub fn load_number(answer: Result<(), LoadRefusal>) -> u32
     ensures { result ≡ load_number answer }
 {
     match answer {
-        LoadAnswer::Accepted => 0,
-        LoadAnswer::BadSize => 1,
-        LoadAnswer::ShortFile => 7,
-        LoadAnswer::BadMagic => 8,
-        LoadAnswer::BadBody => 9,
-        LoadAnswer::BadDataStart => 10,
-        LoadAnswer::BadEntry => 11,
+        Ok(()) => 0,
+        Err(refusal) => refusal as u32,
     }
 }
 
@@ -46,31 +40,28 @@ fn entry_ok(entry: u32, start: u32) -> bool
 }
 
 // Whether a file may be loaded into a memory of this size.
-pub fn judge(size: usize, file: &[u8]) -> LoadAnswer
+pub fn judge(size: usize, file: &[u8]) -> Result<(), LoadRefusal>
     ensures { result ≡ load_answer size file.now }
 {
-    let fits = memory::size_ok(size);
-    if !fits {
-        return LoadAnswer::BadSize;
+    if !memory::size_ok(size) {
+        return Err(LoadRefusal::BadSize);
     }
     let len = file.len();
     if len < 16 {
-        return LoadAnswer::ShortFile;
+        return Err(LoadRefusal::ShortFile);
     }
     if memory::load4(file, 0) != 0xC0DE_F00D {
-        return LoadAnswer::BadMagic;
+        return Err(LoadRefusal::BadMagic);
     }
-    let body = body_ok(size, len - 16);
-    if !body {
-        return LoadAnswer::BadBody;
+    if !body_ok(size, len - 16) {
+        return Err(LoadRefusal::BadBody);
     }
     let start = memory::load4(file, 12);
     if len - 16 < start as usize {
-        return LoadAnswer::BadDataStart;
+        return Err(LoadRefusal::BadDataStart);
     }
-    let entry = entry_ok(memory::load4(file, 8), start);
-    if !entry {
-        return LoadAnswer::BadEntry;
+    if !entry_ok(memory::load4(file, 8), start) {
+        return Err(LoadRefusal::BadEntry);
     }
-    LoadAnswer::Accepted
+    Ok(())
 }

@@ -1,4 +1,5 @@
 -- Document 02, item 7: a fetch that a probe tells, of a floating instruction.
+use Rattle.std.proofs.Common.{Ok, Option, Some}
 use Prim.Native.Nat.{ℕ, ◌+◌, ◌≤◌}
 use mathlib.Core.Bool.{Bool, true}
 use mathlib.Core.List.{List, []}
@@ -10,10 +11,7 @@ use Rattle.floating_decode.specs.Opcodes.{floating_decode_of}
 use Rattle.floating_decode.specs.Listed.{is_listed}
 use Rattle.floating_decode.proofs.Undecoded.{floating_illegal}
 use Rattle.paging.specs.declared.Access.TheVariants.{Fetch}
-use Rattle.paging.specs.declared.Answer.TheVariants as answer
 use Rattle.paging.specs.declared.Space.{Space}
-use Rattle.mmu.specs.declared.Probed.{Probed}
-use Rattle.mmu.specs.declared.Probed.TheVariants.{At}
 use Rattle.mmu.specs.Good.{Good}
 use Rattle.mmu.specs.Translates.{Translates}
 use Rattle.mmu.specs.Probes.{Probes}
@@ -26,9 +24,9 @@ use Rattle.contracts.specs.Contract.{bad, Executes}
 use Rattle.contracts.proofs.Laws.{executes_undecoded}
 use Rattle.execute.proofs.Laws.{executes_fetched}
 
-module _ (s : Space) (user : Bool) (pc : ℕ) (m l : List ℕ) {p : Probed} {q : ℕ} (g : Good (length m) s.pdir l) (h : Probes s (requested Fetch 4 pc user) m l p)
-    (e : p ≡ At q) where
-  told : Translates s (requested Fetch 4 pc user) m l (answer.At q) m l
+module _ (s : Space) (user : Bool) (pc : ℕ) (m l : List ℕ) {p : Option ℕ} {q : ℕ} (g : Good (length m) s.pdir l) (h : Probes s (requested Fetch 4 pc user) m l p)
+    (e : p ≡ Some q) where
+  told : Translates s (requested Fetch 4 pc user) m l (Ok q) m l
   told = subst (Probes s (requested Fetch 4 pc user) m l) e h
 
   -- the word lies in memory

@@ -1,6 +1,6 @@
 -- Document 02, item 7: "eight-byte accesses drop three address bits". Eight bytes are translated as the word at their address is, with three bits of an answered
 -- address dropped; a fault is the same.
-use Rattle.std.proofs.Common.{if◌then◌else◌}
+use Rattle.std.proofs.Common.{if◌then◌else◌, Ok, Err}
 use Prim.Native.Nat.{ℕ, ◌+◌, ◌*◌, ◌/◌, ◌≤◌}
 use native.Mathlib.Omega.{arith}
 use mathlib.Core.Bool.{Bool, true, false}
@@ -13,12 +13,11 @@ use Rattle.word.specs.Word.{cut}
 use Rattle.memory.specs.declared.Size.TheVariants.{Word}
 use Rattle.paging.specs.declared.Access.{Access}
 use Rattle.paging.specs.declared.Entry.{Entry}
-use Rattle.paging.specs.declared.Answer.{Answer}
-use Rattle.paging.specs.declared.Answer.TheVariants.{At, Denied}
+use Rattle.paging.specs.Answer.{Answer}
 use Rattle.paging.specs.declared.Cause.TheVariants.{AddressBeyondMemory}
 use Rattle.paging.specs.declared.Fault.{Fault}
 use Rattle.paging.specs.declared.Space.{Space}
-use Rattle.paging.specs.TrapCode.{FMEM}
+use Rattle.paging.specs.declared.TrapCode.TheVariants.{Fmem}
 use Rattle.paging.specs.Walk.{Found, fault, found}
 use Rattle.paging.specs.Buffer.{hit}
 use Rattle.paging.specs.Translate.{Outcome, outcome, page_of, in_frame, denied, direct, answer_of, refilled, paged_by, paged, translate_by}
@@ -30,8 +29,8 @@ use Rattle.rules.specs.Tree.{requested}
 
 -- an answer with three address bits dropped
 unfoldable eight : Answer → Answer
-eight (At p) = At (p / 8 * 8)
-eight (Denied f) = Denied f
+eight (Ok p) = Ok (p / 8 * 8)
+eight (Err f) = Err f
 
 -- an outcome, its answer so
 abbrev eight_by : Outcome (List Entry) Answer → Outcome (List Entry) Answer
@@ -40,7 +39,7 @@ eight_by o = outcome (eight o.answer) o.mem o.buffer o.events
 module _ (k : Access) (a : ℕ) (u : Bool) where
   frame_eight : (f : ℕ) → in_frame f (requested k 8 a u) ≡ eight (in_frame f (request k Word a u))
   unfolding eight
-  frame_eight f = ap At (omega arith)
+  frame_eight f = ap Ok (omega arith)
 
   found_eight : (r : Found) → answer_of (requested k 8 a u) r ≡ eight (answer_of (request k Word a u) r)
   unfolding answer_of eight
@@ -51,9 +50,9 @@ module _ (k : Access) (a : ℕ) (u : Bool) where
   unfolding direct eight
   direct_eight m = go (ltb a (length m))
     where
-      go : (b : Bool) → (if b then At (cut 8 a) else denied FMEM AddressBeyondMemory (requested k 8 a u))
-          ≡ eight (if b then At (cut 4 a) else denied FMEM AddressBeyondMemory (request k Word a u))
-      go true = ap At (omega arith)
+      go : (b : Bool) → (if b then Ok (cut 8 a) else denied Fmem AddressBeyondMemory (requested k 8 a u))
+          ≡ eight (if b then Ok (cut 4 a) else denied Fmem AddressBeyondMemory (request k Word a u))
+      go true = ap Ok (omega arith)
       go false = refl
 
   paged_eight : (o : Option ℕ) (pdir : ℕ) (m : List ℕ) (es : List Entry) → paged_by o pdir (requested k 8 a u) m es ≡ eight_by (paged_by o pdir (request k Word a u) m es)
@@ -76,23 +75,23 @@ module _ {s : Space} {k : Access} {a : ℕ} {u : Bool} {m l : List ℕ} {r : Ans
         good = t.good;
       }
 
-  pub eight_at : {p : ℕ} → r ≡ At p → Translates s (requested k 8 a u) m l (At (p / 8 * 8)) m' l'
+  pub eight_at : {p : ℕ} → r ≡ Ok p → Translates s (requested k 8 a u) m l (Ok (p / 8 * 8)) m' l'
   unfolding eight
   eight_at e = subst (λ x. Translates s (requested k 8 a u) m l (eight x) m' l') e eight_told
 
-  pub eight_denied : {f : Fault} → r ≡ Denied f → Translates s (requested k 8 a u) m l (Denied f) m' l'
+  pub eight_denied : {f : Fault} → r ≡ Err f → Translates s (requested k 8 a u) m l (Err f) m' l'
   unfolding eight
   eight_denied e = subst (λ x. Translates s (requested k 8 a u) m l (eight x) m' l') e eight_told
 
 -- in a multiple of eight bytes the eight bytes lie where the word at their address does
 within_eight : (n : ℕ) → n / 8 * 8 ≡ n → (r : Answer) → Within n 4 r → Within n 8 (eight r)
 unfolding Within eight
-within_eight n z (At p) h = omega arith
-within_eight n z (Denied f) h = tt
+within_eight n z (Ok p) h = omega arith
+within_eight n z (Err f) h = tt
 
 -- an answered address of eight bytes lies in memory with all of them
 pub eight_within : {s : Space} {k : Access} {a : ℕ} {u : Bool} {m l : List ℕ} {r : Answer} {m' l' : List ℕ} {p : ℕ}
-    → Good (length m) s.pdir l → Translates s (requested k 8 a u) m l r m' l' → r ≡ At p → p + 8 ≤ length m'
+    → Good (length m) s.pdir l → Translates s (requested k 8 a u) m l r m' l' → r ≡ Ok p → p + 8 ≤ length m'
 unfolding Within
 eight_within {s} {k} {a} {u} {m} {l} {r} {m'} {l'} {p} g t e =
     let word = translate_within k Word a u m g.directory.whole s.paging s.pdir (kept_in l).held g.entries in

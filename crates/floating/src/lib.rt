@@ -1,23 +1,23 @@
 // Document 02, item 7: every floating instruction. pc has moved on.
 #![tactic(auto)]
 
-ghost use Rattle.std.specs.Prelude.{◌≡◌, [], length};
+ghost use Rattle.std.specs.Prelude.{◌≡◌};
 ghost use Rattle.floating_decode.specs.Opcodes.{floating_decode_of};
-ghost use Rattle.mmu.specs.Good.{Good};
+ghost use Rattle.mmu.specs.Bus.{SameBus};
 ghost use Rattle.mmu.specs.Translates.{Translates};
 ghost use Rattle.rules.specs.Tree.{requested};
 ghost use Rattle.rules.specs.Outcome.{reading};
 ghost use Rattle.double.specs.Single.{double_of, single_of};
 ghost use Rattle.rules.specs.Floating.{float_of, put_float, computing, storing, arith_of, float_holds, float_tree};
-ghost use Rattle.contracts.specs.Contract.{float_ok, float_bad, FloatExecutes};
+ghost use Rattle.contracts.specs.Contract.{float_ok, float_bad, FloatExecutesOn};
 ghost use Rattle.floating.specs.Done.{cut_done};
 
 use contracts::{End, FloatDone};
 use decode::Reg;
-use double::Cut;
 use floating_decode::{FloatInstr, FloatOp, FloatReg, FloatTest, Precision};
 use memory::Size;
-use paging::{Access, Answer, Space};
+use mmu::Bus;
+use paging::{Access, Fault, TrapCode};
 use rules::{Floats, Regs};
 
 // ---- ends
@@ -57,8 +57,8 @@ fn put(v: Floats, d: FloatReg, x: u64) -> Floats
     ensures { result ≡ put_float d x v }
 {
     match d {
-        FloatReg::F => Floats { f: x, g: v.g },
-        FloatReg::G => Floats { f: v.f, g: x },
+        FloatReg::F => Floats { f: x, ..v },
+        FloatReg::G => Floats { g: x, ..v },
     }
 }
 
@@ -87,202 +87,106 @@ fn holds(t: FloatTest, x: u64, y: u64) -> bool
 // ---- accesses
 
 // Where eight bytes lie: where the word at the address lies, with three bits dropped. A fault has the address asked.
-fn translate_double(
-    mem: &mut [u8],
-    tlb: &mut [u64],
-    hint: &mut [u8; 256],
-    space: Space,
-    addr: u32,
-    kind: Access,
-    user: bool,
-) -> Answer
-    requires { Good (length mem.old) space.pdir tlb.old }
-    ensures { Translates space (requested kind 8 addr user) mem.old tlb.old result mem.new tlb.new }
+#[inline(always)]
+fn translate_double(bus: &mut Bus, addr: u32, kind: Access) -> Result<usize, Fault>
+    ensures bus { SameBus bus.old bus.new }
+    ensures answer { Translates bus.old.space (requested kind 8 addr bus.old.user) bus.old.mem.now bus.old.tlb.now result bus.new.mem.now bus.new.tlb.now }
 {
-    let p = mmu::translate(mem, tlb, hint, space, addr, Size::Word, kind, user);
-    match p {
-        Answer::At(q) => Answer::At(q / 8 * 8),
-        Answer::Denied(f) => Answer::Denied(f),
-    }
+    let p = bus.translate(addr, Size::Word, kind);
+    let Ok(q) = p else {
+        return p;
+    };
+    Ok(q / 8 * 8)
 }
 
 // Eight bytes go to a register, and the registers after it are r.
-fn read_double(
-    r: Regs,
-    v: Floats,
-    d: FloatReg,
-    va: u32,
-    user: bool,
-    space: Space,
-    mem: &mut [u8],
-    tlb: &mut [u64],
-    hint: &mut [u8; 256],
-) -> FloatDone
-    requires { Good (length mem.old) space.pdir tlb.old }
-    ensures { FloatExecutes (reading 8 va (λ y. computing r (put_float d y v))) space user [] mem.old tlb.old result mem.new tlb.new }
+#[inline(always)]
+fn read_double(r: Regs, v: Floats, d: FloatReg, va: u32, bus: &mut Bus) -> FloatDone
+    ensures bus { SameBus bus.old bus.new }
+    ensures executes { FloatExecutesOn (reading 8 va (λ y. computing r (put_float d y v))) bus.old result bus.new }
 {
-    let p = translate_double(mem, tlb, hint, space, va, Access::Read, user);
-    let Answer::At(q) = p else {
+    let p = translate_double(bus, va, Access::Read);
+    let Ok(q) = p else {
         return ended(r, v, End::Refused(contracts::fault_of(p)));
     };
-    let y = memory::load8(mem, q);
+    let y = memory::load8(bus.bytes(), q);
     fine(r, put(v, d, y))
 }
 
-// The same for POPF and POPG. With two callers the function would stay out of line, and f and g in memory: a floating instruction took half as long again.
-fn pop_double(
-    r: Regs,
-    v: Floats,
-    d: FloatReg,
-    va: u32,
-    user: bool,
-    space: Space,
-    mem: &mut [u8],
-    tlb: &mut [u64],
-    hint: &mut [u8; 256],
-) -> FloatDone
-    requires { Good (length mem.old) space.pdir tlb.old }
-    ensures { FloatExecutes (reading 8 va (λ y. computing r (put_float d y v))) space user [] mem.old tlb.old result mem.new tlb.new }
+// A single, widened, goes to a register. One function for both widths would take translation, load and widening as parameters.
+#[inline(always)]
+fn read_single(r: Regs, v: Floats, d: FloatReg, va: u32, bus: &mut Bus) -> FloatDone
+    ensures bus { SameBus bus.old bus.new }
+    ensures executes { FloatExecutesOn (reading 4 va (λ y. computing r (put_float d (double_of y) v))) bus.old result bus.new }
 {
-    let p = translate_double(mem, tlb, hint, space, va, Access::Read, user);
-    let Answer::At(q) = p else {
+    let p = bus.translate(va, Size::Word, Access::Read);
+    let Ok(q) = p else {
         return ended(r, v, End::Refused(contracts::fault_of(p)));
     };
-    let y = memory::load8(mem, q);
-    fine(r, put(v, d, y))
-}
-
-// A single, widened, goes to a register.
-fn read_single(
-    r: Regs,
-    v: Floats,
-    d: FloatReg,
-    va: u32,
-    user: bool,
-    space: Space,
-    mem: &mut [u8],
-    tlb: &mut [u64],
-    hint: &mut [u8; 256],
-) -> FloatDone
-    requires { Good (length mem.old) space.pdir tlb.old }
-    ensures { FloatExecutes (reading 4 va (λ y. computing r (put_float d (double_of y) v))) space user [] mem.old tlb.old result mem.new tlb.new }
-{
-    let p = mmu::translate(mem, tlb, hint, space, va, Size::Word, Access::Read, user);
-    let Answer::At(q) = p else {
-        return ended(r, v, End::Refused(contracts::fault_of(p)));
-    };
-    let y = double::widen(memory::load4(mem, q));
+    let y = double::widen(memory::load4(bus.bytes(), q));
     fine(r, put(v, d, y))
 }
 
 // x is stored in eight bytes, and the registers after it are r.
-fn write_double(
-    r: Regs,
-    v: Floats,
-    x: u64,
-    va: u32,
-    user: bool,
-    space: Space,
-    mem: &mut [u8],
-    tlb: &mut [u64],
-    hint: &mut [u8; 256],
-) -> FloatDone
-    requires { Good (length mem.old) space.pdir tlb.old }
-    ensures { FloatExecutes (storing 8 va x r v) space user [] mem.old tlb.old result mem.new tlb.new }
+#[inline(always)]
+fn write_double(r: Regs, v: Floats, x: u64, va: u32, bus: &mut Bus) -> FloatDone
+    ensures bus { SameBus bus.old bus.new }
+    ensures executes { FloatExecutesOn (storing 8 va x r v) bus.old result bus.new }
 {
-    let p = translate_double(mem, tlb, hint, space, va, Access::Write, user);
-    let Answer::At(q) = p else {
+    let p = translate_double(bus, va, Access::Write);
+    let Ok(q) = p else {
         return ended(r, v, End::Refused(contracts::fault_of(p)));
     };
-    memory::store8(mem, q, x);
-    fine(r, v)
-}
-
-// The same for PSHF and PSHG, for the same reason.
-fn push_double(
-    r: Regs,
-    v: Floats,
-    x: u64,
-    va: u32,
-    user: bool,
-    space: Space,
-    mem: &mut [u8],
-    tlb: &mut [u64],
-    hint: &mut [u8; 256],
-) -> FloatDone
-    requires { Good (length mem.old) space.pdir tlb.old }
-    ensures { FloatExecutes (storing 8 va x r v) space user [] mem.old tlb.old result mem.new tlb.new }
-{
-    let p = translate_double(mem, tlb, hint, space, va, Access::Write, user);
-    let Answer::At(q) = p else {
-        return ended(r, v, End::Refused(contracts::fault_of(p)));
-    };
-    memory::store8(mem, q, x);
+    memory::store_bytes::<8>(bus.mem, q, x);
     fine(r, v)
 }
 
 // f is stored as a single.
-fn write_single(
-    r: Regs,
-    v: Floats,
-    va: u32,
-    user: bool,
-    space: Space,
-    mem: &mut [u8],
-    tlb: &mut [u64],
-    hint: &mut [u8; 256],
-) -> FloatDone
-    requires { Good (length mem.old) space.pdir tlb.old }
-    ensures { FloatExecutes (storing 4 va (single_of v.f) r v) space user [] mem.old tlb.old result mem.new tlb.new }
+#[inline(always)]
+fn write_single(r: Regs, v: Floats, va: u32, bus: &mut Bus) -> FloatDone
+    ensures bus { SameBus bus.old bus.new }
+    ensures executes { FloatExecutesOn (storing 4 va (single_of v.f) r v) bus.old result bus.new }
 {
-    let p = mmu::translate(mem, tlb, hint, space, va, Size::Word, Access::Write, user);
-    let Answer::At(q) = p else {
+    let p = bus.translate(va, Size::Word, Access::Write);
+    let Ok(q) = p else {
         return ended(r, v, End::Refused(contracts::fault_of(p)));
     };
-    memory::store4(mem, q, narrowing::narrow(v.f));
+    memory::store_bytes::<4>(bus.mem, q, narrowing::narrow(v.f) as u64);
     fine(r, v)
 }
 
 // ---- every instruction
 
 // The word that CDI and CDU cut goes to a; what does not fit is FARITH.
-fn cut(r: Regs, v: Floats, x: Cut) -> FloatDone
+fn cut(r: Regs, v: Floats, x: Option<u32>) -> FloatDone
     ensures { result ≡ cut_done x r v }
 {
     match x {
-        Cut::Unfit => ended(r, v, End::Trap(paging::FARITH)),
-        Cut::Fits(n) => fine(operations::put(r, Reg::A, n), v),
+        None => ended(r, v, End::Trap(TrapCode::Farith)),
+        Some(n) => fine(operations::put(r, Reg::A, n), v),
     }
 }
 
 // One floating instruction.
-fn execute(
-    r: Regs,
-    v: Floats,
-    i: FloatInstr,
-    user: bool,
-    space: Space,
-    mem: &mut [u8],
-    tlb: &mut [u64],
-    hint: &mut [u8; 256],
-) -> FloatDone
-    requires { Good (length mem.old) space.pdir tlb.old }
-    ensures { FloatExecutes (float_tree i r v) space user [] mem.old tlb.old result mem.new tlb.new }
+#[inline(always)]
+fn execute(r: Regs, v: Floats, i: FloatInstr, bus: &mut Bus) -> FloatDone
+    ensures bus { SameBus bus.old bus.new }
+    ensures executes { FloatExecutesOn (float_tree i r v) bus.old result bus.new }
 {
     match i {
-        FloatInstr::Unlisted => ended(r, v, End::Trap(paging::FINST)),
+        FloatInstr::Unlisted => ended(r, v, End::Trap(TrapCode::Finst)),
         FloatInstr::Load(d, b, p, n) => {
             let va = word::sum(operations::base(r, b), n);
             match p {
-                Precision::Double => read_double(r, v, d, va, user, space, mem, tlb, hint),
-                Precision::Single => read_single(r, v, d, va, user, space, mem, tlb, hint),
+                Precision::Double => read_double(r, v, d, va, bus),
+                Precision::Single => read_single(r, v, d, va, bus),
             }
         }
         FloatInstr::Store(b, p, n) => {
             let va = word::sum(operations::base(r, b), n);
             match p {
-                Precision::Double => write_double(r, v, v.f, va, user, space, mem, tlb, hint),
-                Precision::Single => write_single(r, v, va, user, space, mem, tlb, hint),
+                Precision::Double => write_double(r, v, v.f, va, bus),
+                Precision::Single => write_single(r, v, va, bus),
             }
         }
         FloatInstr::LoadImm(d, n) => fine(r, put(v, d, double::of_signed(n))),
@@ -311,11 +215,11 @@ fn execute(
         FloatInstr::Push(d) => {
             let top = word::difference(r.sp, 8);
             let n = contracts::regs(r, r.a, r.b, r.c, top / 8 * 8, r.pc);
-            push_double(n, v, get(v, d), top, user, space, mem, tlb, hint)
+            write_double(n, v, get(v, d), top, bus)
         }
         FloatInstr::Pop(d) => {
             let n = contracts::regs(r, r.a, r.b, r.c, word::sum(r.sp, 8) / 8 * 8, r.pc);
-            pop_double(n, v, d, r.sp, user, space, mem, tlb, hint)
+            read_double(n, v, d, r.sp, bus)
         }
         FloatInstr::Fabs => fine(r, put(v, FloatReg::F, double::absolute(v.f))),
         FloatInstr::Flor => fine(r, put(v, FloatReg::F, double::floor(v.f))),
@@ -324,27 +228,10 @@ fn execute(
 }
 
 // The floating instruction of a word that document 01's table has no row for.
-pub fn instruction(
-    r: Regs,
-    v: Floats,
-    w: u32,
-    user: bool,
-    space: Space,
-    mem: &mut [u8],
-    tlb: &mut [u64],
-    hint: &mut [u8; 256],
-) -> FloatDone
-    requires { Good (length mem.old) space.pdir tlb.old }
-    ensures { FloatExecutes (float_tree (floating_decode_of w) r v) space user [] mem.old tlb.old result mem.new tlb.new }
+#[inline(always)]
+pub fn instruction(r: Regs, v: Floats, w: u32, bus: &mut Bus) -> FloatDone
+    ensures bus { SameBus bus.old bus.new }
+    ensures executes { FloatExecutesOn (float_tree (floating_decode_of w) r v) bus.old result bus.new }
 {
-    execute(
-        r,
-        v,
-        floating_decode::floating_decode(w),
-        user,
-        space,
-        mem,
-        tlb,
-        hint,
-    )
+    execute(r, v, floating_decode::floating_decode(w), bus)
 }

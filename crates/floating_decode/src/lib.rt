@@ -128,7 +128,7 @@ pub fn floating_decode(word: u32) -> FloatInstr
     floating_opcode(op, immediate(word / 256))
 }
 
-// The opcode bytes with a row in the table, 64 of the 256 in a number: four digits have sixteen bytes, the lowest last.
+// A match, since an array with an index would be no shorter. The opcode bytes with a row in the table, 64 of the 256 in a number: four digits have sixteen bytes, the lowest last.
 fn floating_set(quarter: u8) -> u64
     requires { quarter < 4 }
     ensures { QuarterSet quarter result }

@@ -2,89 +2,81 @@
 // packed in bytes.
 #![tactic(auto)]
 
-ghost use Rattle.std.specs.Prelude.{◌≡◌, ◌&&◌, leb};
+ghost use Rattle.std.specs.Prelude.{◌≡◌, ◌<◌, List, length, slice_get, Some};
+ghost use Rattle.rules.specs.declared.Key.{Key};
 ghost use Rattle.rules.specs.Run.{keys_rise};
 ghost use Rattle.rules.specs.Clock.{next_of};
 ghost use Rattle.keys.specs.Packed.{unpacked};
 
-use rules::{Key, Next};
+use rules::Key;
 
-// Whether no step number has fallen, after one more.
-fn rises(ok: bool, last: u64, step: u64) -> bool
-    ensures { result ≡ (ok && leb last step) }
-{
-    ok & (last <= step)
+// A list of keys, in the form in which it was lent.
+pub trait KeyList {
+    ghost keys: { Self → List Key };
+
+    fn count(&self) -> usize
+        ensures { result ≡ length (keys self.now) };
+
+    fn key(&self, i: usize) -> Key
+        requires { i < length (keys self.now) }
+        ensures { slice_get (keys self.now) i ≡ Some result };
 }
 
 // Whether the step numbers of the keys never fall.
-pub fn rising(keys: &[Key]) -> bool
-    ensures { result ≡ keys_rise 0 keys.now }
+pub fn rising<L: KeyList>(keys: &L) -> bool
+    ensures { result ≡ keys_rise 0 (L.keys keys.now) }
 {
-    let mut ok = true;
     let mut last = 0;
-    let mut i = 0;
-    while i < keys.len() {
-        let step = keys[i].step;
-        ok = rises(ok, last, step);
+    for i in 0..keys.count() {
+        let step = keys.key(i).step;
+        if step < last {
+            return false;
+        }
         last = step;
-        i += 1;
     }
-    ok
+    true
 }
 
 // The first key that has not been taken, if there is one.
-pub fn next_key(keys: &[Key], taken: usize) -> Next
-    ensures { result ≡ next_of keys.now taken }
+pub fn next_key<L: KeyList>(keys: &L, taken: usize) -> Option<Key>
+    ensures { result ≡ next_of (L.keys keys.now) taken }
 {
-    if taken < keys.len() {
-        let k = keys[taken];
-        Next {
-            some: true,
-            step: k.step,
-            byte: k.byte,
-        }
+    if taken < keys.count() {
+        Some(keys.key(taken))
     } else {
-        Next {
-            some: false,
-            step: 0,
-            byte: 0,
+        None
+    }
+}
+
+impl KeyList for &[Key] {
+    ghost keys = { λ ks. ks.now };
+
+    fn count(&self) -> usize {
+        self.len()
+    }
+
+    fn key(&self, i: usize) -> Key {
+        self[i]
+    }
+}
+
+// Packed keys: nine bytes a key, eight of its step number, the lowest first, and its byte.
+#[derive(Clone, Copy)]
+pub struct PackedKeys<'a>(pub &'a [u8]);
+
+impl KeyList for PackedKeys<'_> {
+    ghost keys = { λ ks. unpacked ks.0.now };
+
+    #[tactic(auto, using(crate::proofs::Packed::length_unpacked))]
+    fn count(&self) -> usize {
+        self.0.len() / 9
+    }
+
+    #[tactic(auto, using(crate::proofs::Packed::length_unpacked))]
+    fn key(&self, i: usize) -> Key {
+        Key {
+            step: memory::load8(self.0, 9 * i),
+            byte: self.0[9 * i + 8],
         }
-    }
-}
-
-// ---- packed keys: nine bytes a key, eight of its step number, the lowest first, and its byte
-
-// Whether the step numbers of packed keys never fall.
-pub fn rising_packed(keys: &[u8]) -> bool
-    ensures { result ≡ keys_rise 0 (unpacked keys.now) }
-{
-    let count = keys.len() / 9;
-    let mut ok = true;
-    let mut last = 0;
-    let mut key = 0;
-    while key < count {
-        let step = memory::load8(keys, 9 * key);
-        ok = rises(ok, last, step);
-        last = step;
-        key += 1;
-    }
-    ok
-}
-
-// The first packed key that has not been taken, if there is one.
-pub fn next_packed(keys: &[u8], taken: usize) -> Next
-    ensures { result ≡ next_of (unpacked keys.now) taken }
-{
-    if taken < keys.len() / 9 {
-        return Next {
-            some: true,
-            step: memory::load8(keys, 9 * taken),
-            byte: keys[9 * taken + 8],
-        };
-    }
-    Next {
-        some: false,
-        step: 0,
-        byte: 0,
     }
 }

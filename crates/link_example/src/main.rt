@@ -2,7 +2,7 @@
 // its end, and is refused once. What it calls has no `requires`, so that it is proved without a line of proof.
 #![tactic(auto)]
 
-use rules::Machine;
+use rules::{Cpu, Machine};
 use runs::RunResult;
 
 // An executable that waits for a digit, puts it on the console and leaves 1,200 times its value in a. After the header (magic, bss, entry, data start) a line
@@ -41,62 +41,56 @@ fn number(name: &[u8], n: u64) {
     io::print_decimal(1, n);
 }
 
-// The bytes that the machine wrote. A run never counts more of them than the console has; `io::count` says so of the number, which spares the proof.
+fn show_registers(cpu: Cpu) {
+    number(b" stop ", u64::from(rules::stop_number(cpu.stop)));
+    number(b" a ", u64::from(cpu.regs.a));
+    number(b" b ", u64::from(cpu.regs.b));
+    number(b" c ", u64::from(cpu.regs.c));
+    number(b" sp ", u64::from(cpu.regs.sp));
+    number(b" pc ", u64::from(cpu.regs.pc));
+}
+
+// The bytes that the machine wrote. A run never counts more of them than the console has.
 fn show_console(console: &[u8], written: usize) {
     io::write_all(1, b" console ");
-    if written <= CONSOLE {
-        let n = io::count(written as isize, console);
-        io::write_all(1, &console[..n]);
+    if let Some(bytes) = console.get(..written) {
+        io::write_all(1, bytes);
     }
     io::write_all(1, b"\n");
 }
 
-// A field that is a struct or an enum is copied first, one field at a time.
-fn show_registers(m: Machine) {
-    let c = m.cpu;
-    let stop = c.stop;
-    let r = c.regs;
-    number(b" stop ", rules::stop_number(stop) as u64);
-    number(b" a ", r.a as u64);
-    number(b" b ", r.b as u64);
-    number(b" c ", r.c as u64);
-    number(b" sp ", r.sp as u64);
-    number(b" pc ", r.pc as u64);
-}
-
-fn show(what: &[u8], ran: RunResult, console: &[u8]) {
-    let answer = ran.answer;
-    let m = ran.machine;
+fn show(what: &[u8], ran: &RunResult, console: &[u8]) {
     io::write_all(1, what);
-    number(b": answer ", rules::run_number(answer) as u64);
+    number(b": answer ", u64::from(rules::run_number(ran.answer)));
     number(b" steps ", ran.steps);
-    show_registers(m);
-    show_console(console, m.cpu.written);
+    show_registers(ran.machine.cpu);
+    show_console(console, ran.machine.cpu.written);
 }
 
 // A run, and its line. Its one key is the digit 8, in step 10: nine bytes, eight of the step number, the lowest first, and the key's. Each run gets the whole
 // list, since the record knows how many were taken.
 fn run(what: &[u8], m: Machine, memory: &mut [u8], console: &mut [u8], budget: u64) -> Machine {
     let ran = v9::run_packed(m, memory, console, b"\x0a\0\0\0\0\0\0\0\x38", budget);
-    show(what, ran, console);
+    show(what, &ran, console);
     ran.machine
 }
 
-// A single step is a run of budget 1. `v9::single_step` makes it over the caller's own record, with keys as structs (`entry_calls::single_step` calls it); here
-// the record goes by value, and the keys are packed.
+// A single step is a run of budget 1. `v9::single_step` makes it over the caller's own record, with keys as structs (`entry_calls::made` calls it); here the
+// record goes by value, and the keys are packed.
 fn step(m: Machine, memory: &mut [u8], console: &mut [u8]) -> Machine {
     run(b"step", m, memory, console, 1)
 }
 
 fn main() {
-    let mut memory = [0u8; 4096];
-    let mut console = [0u8; CONSOLE];
+    let mut memory = [0; 4096];
+    let mut console = [0; CONSOLE];
     let loaded = loader::load(&FILE, &mut memory);
-    let answer = loaded.answer;
-    number(b"load: answer ", executable::load_number(answer) as u64);
+    number(
+        b"load: answer ",
+        u64::from(executable::load_number(loaded.answer)),
+    );
     io::write_all(1, b"\n");
-    let fresh = loaded.machine;
-    let waiting = run(b"wait", fresh, &mut memory, &mut console, 9);
+    let waiting = run(b"wait", loaded.machine, &mut memory, &mut console, 9);
     let trapped = step(waiting, &mut memory, &mut console);
     let read = step(trapped, &mut memory, &mut console);
     let halted = run(b"end", read, &mut memory, &mut console, 1_000_000);

@@ -5,33 +5,35 @@ ghost use Rattle.std.specs.Prelude.{◌≡◌, ◌+◌, ◌^◌, ◌<◌, ◌≤
 ghost use Rattle.memory.specs.Memory.{load_n};
 ghost use Rattle.listing.specs.Listing.{refused_line, word_line, line_of, Shown};
 ghost use Rattle.listing.specs.Listed.{line_number, no_read, Reads};
-ghost use Rattle.listing.specs.Stands.{HasWord, equal, is_line_of};
+ghost use Rattle.listing.specs.Stands.{HasWord, is_line_of};
+
+use text::Writer;
 
 // The run program's memory.
 const MEMORY: usize = 32768;
 
-// What the reading of a line answers.
-#[derive(Clone, Copy)]
-pub enum LineAnswer {
-    Accepted,
-    Unlisted,
+// Why a line is not read, by number: it stands in no accepted file's listing.
+#[derive(Clone, Copy, Debug, PartialEq, Eq)]
+pub enum LineRefusal {
+    Unlisted = 12,
 }
 
 // The address and word that a line came from; refused, both are 0.
 #[derive(Clone, Copy)]
 pub struct LineRead {
-    pub answer: LineAnswer,
+    // Beside address and word, which a refused line has too: `Reads` says that they are 0.
+    pub answer: Result<(), LineRefusal>,
     pub address: u32,
     pub word: u32,
 }
 
-// The number of an answer.
-pub fn line_number(answer: LineAnswer) -> u32
+// The number of an answer, 0 of a line that was read.
+pub fn line_number(answer: Result<(), LineRefusal>) -> u32
     ensures { result ≡ line_number answer }
 {
     match answer {
-        LineAnswer::Accepted => 0,
-        LineAnswer::Unlisted => 12,
+        Ok(()) => 0,
+        Err(refusal) => refusal as u32,
     }
 }
 
@@ -40,18 +42,16 @@ fn refused_line(line: &mut [u8], number: u32) -> usize
     requires { 28 ≤ length line.old }
     ensures { Shown (refused_line number) line.old line.new result }
 {
-    let end = text::put(line, 0, b"refused ");
-    text::decimal(line, end, number as u64)
+    let mut out = Writer::new(line);
+    out.named(b"refused ", u64::from(number));
+    out.end()
 }
 
 // The byte at a place, 0 past the end.
 fn byte(s: &[u8], at: usize) -> u8
     ensures { result ≡ get_or s.now at 0 }
 {
-    if s.len() <= at {
-        return 0;
-    }
-    s[at]
+    s.get(at).copied().unwrap_or(0)
 }
 
 // Four bytes, the lowest first.
@@ -59,10 +59,12 @@ fn padded_word(s: &[u8], at: usize) -> u32
     requires { at + 4 < 2 ^ 64 }
     ensures { result ≡ load_n 4 s.now at }
 {
-    byte(s, at) as u32
-        + 256 * byte(s, at + 1) as u32
-        + 65536 * byte(s, at + 2) as u32
-        + 16_777_216 * byte(s, at + 3) as u32
+    u32::from_le_bytes([
+        byte(s, at),
+        byte(s, at + 1),
+        byte(s, at + 2),
+        byte(s, at + 3),
+    ])
 }
 
 // The line of the n-th word of an accepted file.
@@ -83,10 +85,9 @@ pub fn line_at(file: &[u8], n: usize, line: &mut [u8; 64]) -> usize
     ensures { Shown (line_of file.now n) line.old line.new result }
 {
     let answer = executable::judge(MEMORY, file);
-    let number = executable::load_number(answer);
-    if number != 0 {
+    if answer.is_err() {
         if n == 0 {
-            return refused_line(line, number);
+            return refused_line(line, executable::load_number(answer));
         }
         return 0;
     }
@@ -94,23 +95,6 @@ pub fn line_at(file: &[u8], n: usize, line: &mut [u8; 64]) -> usize
         return 0;
     }
     word_line(file, n, line)
-}
-
-// Whether two lines are the same bytes.
-fn same(x: &[u8], y: &[u8]) -> bool
-    ensures { result ≡ equal x.now y.now }
-{
-    if x.len() != y.len() {
-        return false;
-    }
-    let mut i = 0;
-    while i < x.len() {
-        if x[i] != y[i] {
-            return false;
-        }
-        i += 1;
-    }
-    true
 }
 
 // Whether a line is what is listed of a word at an address: as text, or from address 4 on as data.
@@ -122,14 +106,14 @@ fn is_line_of(line: &[u8], address: u32, word: u32) -> bool
     }
     let mut shown = [0u8; 64];
     let end = mnemonics::text_line(&mut shown, address, word);
-    if same(line, &shown[..end]) {
+    if line == &shown[..end] {
         return true;
     }
     if address < 4 {
         return false;
     }
     let end = mnemonics::data_line(&mut shown, address, word);
-    same(line, &shown[..end])
+    line == &shown[..end]
 }
 
 // No address and no word.
@@ -137,7 +121,7 @@ fn unlisted() -> LineRead
     ensures { result ≡ no_read }
 {
     LineRead {
-        answer: LineAnswer::Unlisted,
+        answer: Err(LineRefusal::Unlisted),
         address: 0,
         word: 0,
     }
@@ -154,9 +138,9 @@ pub fn read_line(line: &[u8]) -> LineRead
     let word = text::hex::read8(line, 9);
     if is_line_of(line, address, word) {
         return LineRead {
-            answer: LineAnswer::Accepted,
-            address: address,
-            word: word,
+            answer: Ok(()),
+            address,
+            word,
         };
     }
     unlisted()

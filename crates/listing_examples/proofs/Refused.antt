@@ -1,11 +1,11 @@
 -- Document 02, item 2: "A file the run program refuses gets its refused line": the listing of a file that is not accepted is the one line that the run program prints of it.
+use Rattle.std.proofs.Common.{Result, Ok, Err}
 use Prim.Native.Nat.{ℕ}
 use mathlib.Core.List.{List, [], ◌∷◌}
 use mathlib.Core.Path.{◌≡◌, refl, sym, ◌∙◌, ap}
 use borrow.Author.Tests.{ne_eqb}
 use lib.ListN.{length, replicate, length-replicate}
-use Rattle.executable.specs.declared.LoadAnswer.{LoadAnswer}
-use Rattle.executable.specs.declared.LoadAnswer.TheVariants.{Accepted, BadSize, ShortFile, BadMagic, BadBody, BadDataStart, BadEntry}
+use Rattle.executable.specs.declared.LoadRefusal.{LoadRefusal}
 use Rattle.executable.specs.Executable.{load_number, load_answer}
 use Rattle.rules.specs.Load.{load_by, load}
 use Rattle.text.specs.Ascii.{ascii}
@@ -19,14 +19,9 @@ unfolding run.refused_line refused_line ascii
 same_line n = refl
 
 -- what a load answers
-answer_by_lem : (a : LoadAnswer) (file m : List ℕ) → (load_by a file m).answer ≡ a
-answer_by_lem Accepted file m = refl
-answer_by_lem BadSize file m = refl
-answer_by_lem ShortFile file m = refl
-answer_by_lem BadMagic file m = refl
-answer_by_lem BadBody file m = refl
-answer_by_lem BadDataStart file m = refl
-answer_by_lem BadEntry file m = refl
+answer_by_lem : (a : Result Unit LoadRefusal) (file m : List ℕ) → (load_by a file m).answer ≡ a
+answer_by_lem (Ok tt) file m = refl
+answer_by_lem (Err e) file m = refl
 
 -- by a machine of any memory of that size
 module _ (file m con : List ℕ) (e : length m ≡ memory_size) (z : answer_of file ≡ 0 → ⊥) where

@@ -1,19 +1,20 @@
 // Document 01, "The record and the loaded program": what a load gives.
 #![tactic(auto)]
 
-ghost use Rattle.std.specs.Prelude.{◌≡◌, ◌≤◌, length};
+ghost use Rattle.std.specs.Prelude.{◌≡◌, length};
 ghost use Rattle.executable.specs.Executable.{body_of};
 ghost use Rattle.rules.specs.Load.{cpu_with, empty_machine, image};
-ghost use Rattle.loader.specs.Loader.{placed, zeroed, Loadable, LoadsAs};
+ghost use Rattle.loader.specs.Loader.{Loadable, LoadsAs};
 
-use executable::LoadAnswer;
+use executable::LoadRefusal;
 use paging::{Entry, Space};
-use rules::{Clock, Cpu, Floats, LastCause, Machine, Model, Pending, Regs, Stop, System};
+use rules::{Clock, Cpu, Floats, Machine, Model, Pending, Regs, Stop, System};
 
 // What a load gives beside memory: its answer, and the record.
 #[derive(Clone, Copy)]
 pub struct Loaded {
-    pub answer: LoadAnswer,
+    // Beside the record, which a refused load gives too: `LoadsAs` says that it is all zero.
+    pub answer: Result<(), LoadRefusal>,
     pub machine: Machine,
 }
 
@@ -53,7 +54,7 @@ pub fn cpu_with(sp: u32, pc: u32, kbchar: u32) -> Cpu
             iena: false,
             waiting: false,
         },
-        cause: LastCause::None,
+        cause: None,
         stop: Stop::Running,
         written: 0,
         model: Model { doubles: false },
@@ -77,37 +78,14 @@ pub fn empty_machine(c: Cpu) -> Machine
     }
 }
 
-// A body put at address 0.
-fn copy_body(body: &[u8], mem: &mut [u8])
-    requires { length body.now ≤ length mem.old }
-    ensures { mem.new ≡ placed body.now mem.old }
-{
-    let mut i = 0;
-    while i < body.len() {
-        mem[i] = body[i];
-        i += 1;
-    }
-}
-
-// Memory from an address on is zeroed.
-fn zero_from(mem: &mut [u8], from: usize)
-    requires { from ≤ length mem.old }
-    ensures { mem.new ≡ zeroed from mem.old }
-{
-    let mut at = from;
-    while at < mem.len() {
-        mem[at] = 0;
-        at += 1;
-    }
-}
-
 // The body of a file at address 0, and zeros after it.
 fn fill(file: &[u8], mem: &mut [u8])
     requires { Loadable (length mem.old) file.now }
     ensures { mem.new ≡ image (length mem.old) (body_of file.now) }
 {
-    copy_body(&file[16..], mem);
-    zero_from(mem, file.len() - 16);
+    let body = &file[16..];
+    mem[..body.len()].copy_from_slice(body);
+    mem[body.len()..].fill(0);
 }
 
 // A file is loaded, or refused: then memory keeps its bytes.
@@ -116,7 +94,7 @@ pub fn load(file: &[u8], mem: &mut [u8]) -> Loaded
 {
     let size = mem.len();
     let answer = executable::judge(size, file);
-    if executable::load_number(answer) != 0 {
+    if answer.is_err() {
         return Loaded {
             answer,
             machine: empty_machine(cpu_with(0, 0, 0)),

@@ -1,4 +1,5 @@
 -- Document 01, "Numbers returned": a run goes on by a step, by all its quiet steps, or up to an instruction that does not end well.
+use Rattle.std.proofs.Common.{Option}
 use Prim.Native.Nat.{ℕ, ◌+◌, ◌-◌, ◌≤◌, ◌<◌, ◌^◌}
 use native.Mathlib.Omega.{arith}
 use mathlib.Core.Bool.{Bool, true, false}
@@ -11,7 +12,6 @@ use Rattle.rules.specs.declared.Cpu.{Cpu}
 use Rattle.rules.specs.declared.Regs.{Regs}
 use Rattle.rules.specs.Record.{with_floats}
 use Rattle.rules.specs.declared.Key.{Key}
-use Rattle.rules.specs.declared.Next.{Next}
 use Rattle.rules.specs.Outcome.{Out}
 use Rattle.rules.specs.Clock.{next_of}
 use Rattle.rules.specs.Step.{State, settle_tree, finished, stepped_by, step_by, step}
@@ -36,7 +36,7 @@ completed_count size c con m es o = refl
 
 -- ---- the quiet steps
 
-module _ (c : Cpu) (left : ℕ) (k : Next) {n : ℕ} (q : n ≡ quiet_steps k c left) where
+module _ (c : Cpu) (left : ℕ) (k : Option Key) {n : ℕ} (q : n ≡ quiet_steps k c left) where
   -- they are no more than are left
   pub few : n ≤ left
   few = subst (λ (i : ℕ). i ≤ left) (sym q) (quiet_few k c left)
@@ -46,7 +46,7 @@ module _ (c : Cpu) (left : ℕ) (k : Next) {n : ℕ} (q : n ≡ quiet_steps k c 
     quiet = quiet_steps_lem k c left q some
 
     quiet_for : (ks : List Key) → next_of ks c.clock.taken ≡ k → Quiet (next_of ks c.clock.taken) c (c.regs.count + n)
-    quiet_for ks e = subst (λ (x : Next). Quiet x c (c.regs.count + n)) (sym e) quiet
+    quiet_for ks e = subst (λ (x : Option Key). Quiet x c (c.regs.count + n)) (sym e) quiet
 
     -- they end within those that are left, and the timer has not fired
     pub ends_within : {m l : List ℕ} {b : FloatDone} {m' l' : List ℕ} → BurstEnd c (c.regs.count + n) m l b m' l' → c.regs.count + left < 2 ^ 64
@@ -65,7 +65,7 @@ module _ (c : Cpu) (left : ℕ) (k : Next) {n : ℕ} (q : n ≡ quiet_steps k c 
 
 -- ---- a run goes on
 
-module _ (c : Cpu) (left : ℕ) (k : Next) {m l : List ℕ} (ready : Ready c left m l) where
+module _ (c : Cpu) (left : ℕ) (k : Option Key) {m l : List ℕ} (ready : Ready c left m l) where
   -- one step
   pub advance_step : {con : List ℕ} {x : Cpu} {m' con' l' : List ℕ} → Steps c k m con l x m' con' l' → length m' ≡ length m
       → Advances c left k m con l (record { cpu = x; left = left - 1 }) m' con' l'
@@ -77,7 +77,7 @@ module _ (c : Cpu) (left : ℕ) (k : Next) {m l : List ℕ} (ready : Ready c lef
     size = n;
     same = λ ks e.
         run_on ks left (left - 1) (state_of c m con l) (omega (arith, ready.some)) ready.running
-        ∙ ap (λ (q : Next). end_of ks (left - 1) (step_by translator q (state_of c m con l)).state) e
+        ∙ ap (λ (q : Option Key). end_of ks (left - 1) (step_by translator q (state_of c m con l)).state) e
         ∙ ap (end_of ks (left - 1)) (sym h.same);
   }
 

@@ -1,14 +1,9 @@
 -- Document 02, item 7: instructions of the machine's mode one after another: by document 01's table, and from where that one has no row by the mode's.
 use Rattle.std.proofs.Common.{if◌then◌else◌}
 use Prim.Native.Nat.{ℕ}
-use native.Mathlib.Omega.{arith}
 use mathlib.Core.Bool.{Bool, true, false}
-use mathlib.Core.List.{List, [], ◌∷◌}
-use mathlib.Core.Logic.{inl, inr}
-use mathlib.Core.Path.{◌≡◌, refl, sym, ap, ◌∙◌, subst}
-use types.Run.{OneOf}
-use borrow.Enum.Refused.{Among, opened}
-use denote.Enum.Declared as Declared
+use mathlib.Core.List.{List, []}
+use mathlib.Core.Path.{◌≡◌, refl, sym, ap, ◌∙◌}
 use Rattle.floating_decode.specs.Opcodes.{floating_decode_of}
 use Rattle.mmu.specs.Translates.{Kept, result, kept_in, translator}
 use Rattle.rules.specs.declared.Cpu.{Cpu}
@@ -20,7 +15,6 @@ use Rattle.rules.specs.Outcome.{fine, floated, undecoded}
 use Rattle.rules.specs.Execute.{moved}
 use Rattle.rules.specs.Floating.{float_tree}
 use Rattle.rules.specs.Step.{further_tree, settle_tree, finished}
-use Rattle.contracts.specs.contracts.End.{the_type as End·type}
 use Rattle.contracts.specs.declared.End.{End}
 use Rattle.contracts.specs.declared.End.TheVariants.{Ok, Unfetched, Trap, Refused, System, Undecoded}
 use Rattle.contracts.specs.declared.FloatDone.{FloatDone}
@@ -28,17 +22,6 @@ use Rattle.contracts.specs.Contract.{out_by, float_out_by, float_out_of, made_by
 use Rattle.machine.specs.Settled.{furthered, completed, settled}
 
 -- ---- ends
-
--- an end that is no word without a row
-pub not_undecoded : (e : End) → Among (0 ∷ 1 ∷ 2 ∷ 3 ∷ 4 ∷ []) (Declared.tag_of End·type e) → (pad w : ℕ) → e ≡ Undecoded pad w → ⊥
-not_undecoded e h pad w q = none (subst (λ (x : End). OneOf (0 ∷ 1 ∷ 2 ∷ 3 ∷ 4 ∷ []) (Declared.tag_of End·type x)) q (opened h))
-  where
-    none : OneOf (0 ∷ 1 ∷ 2 ∷ 3 ∷ 4 ∷ []) 5 → ⊥
-    none (inl p) = omega (arith, p)
-    none (inr (inl p)) = omega (arith, p)
-    none (inr (inr (inl p))) = omega (arith, p)
-    none (inr (inr (inr (inl p)))) = omega (arith, p)
-    none (inr (inr (inr (inr p)))) = omega (arith, p)
 
 -- an end in the machine's mode that is the one by document 01's table: it has a row, or the mode is the old one
 abbrev pub Settles : Bool → End → Type 0

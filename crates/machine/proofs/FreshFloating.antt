@@ -1,20 +1,20 @@
 -- Document 02, item 7: a floating instruction stores only through the write that it was granted itself: what was granted before does not count.
+use Rattle.std.proofs.Common.{Ok, Err}
 use Prim.Native.Nat.{ℕ}
 use mathlib.Core.Bool.{Bool}
 use mathlib.Core.List.{List, [], ◌∷◌, ◌++◌}
 use mathlib.Core.Path.{◌≡◌, refl}
 use Rattle.memory.specs.Memory.{load_n}
-use Rattle.double.specs.declared.Cut.{Cut}
-use Rattle.double.specs.declared.Cut.TheVariants.{Unfit, Fits}
+use Rattle.std.specs.Prelude.{Option, None, Some}
 use Rattle.double.specs.Arithmetic.{value_of}
 use Rattle.double.specs.Whole.{cut_signed, cut_unsigned}
 use Rattle.floating_decode.specs.declared.FloatInstr.{FloatInstr}
 use Rattle.floating_decode.specs.declared.FloatInstr.TheVariants.{Unlisted, Load, Store, LoadImm, Lbad, Arith, Compare, Bzf, Bnzf, Branch, Cid, Cud, Cdi, Cdu}
 use Rattle.floating_decode.specs.declared.FloatInstr.TheVariants.{Push, Pop, Fabs, Flor, Ceil}
 use Rattle.paging.specs.declared.Access.TheVariants.{Read, Write}
-use Rattle.paging.specs.declared.Answer.{Answer}
-use Rattle.paging.specs.declared.Answer.TheVariants.{At, Denied}
+use Rattle.paging.specs.Answer.{Answer}
 use Rattle.paging.specs.declared.Space.{Space}
+use Rattle.paging.specs.declared.TrapCode.{TrapCode}
 use Rattle.paging.specs.Walk.{is_write}
 use Rattle.mmu.specs.Translates.{Kept, translator}
 use Rattle.rules.specs.declared.Regs.{Regs}
@@ -34,7 +34,7 @@ module _ (s : Space) (user : Bool) where
   unfolding interpret made_by store_all
   fresh_fine r v = record { fresh = λ m es gs. rw (store_none gs m) }
 
-  fresh_trap : (code : ℕ) → FreshOut (done (trap code))
+  fresh_trap : (code : TrapCode) → FreshOut (done (trap code))
   unfolding interpret made_by
   fresh_trap code = record { fresh = λ m es gs. refl }
 
@@ -44,8 +44,8 @@ module _ (s : Space) (user : Bool) where
         → made (interpret translator s user (or_refused k (reply_to Read n m a).reply) m es ((reply_to Read n m a).grants ++ gs))
         ≡ made (interpret translator s user (or_refused k (reply_to Read n m a).reply) m es ((reply_to Read n m a).grants ++ []))
     unfolding reply_to is_write interpret made_by
-    read_reply (At p) m es gs = (h (load_n n m p)).fresh m es gs
-    read_reply (Denied f) m es gs = refl
+    read_reply (Ok p) m es gs = (h (load_n n m p)).fresh m es gs
+    read_reply (Err f) m es gs = refl
 
     fresh_reading : FreshOut (reading n va k)
     unfolding interpret answered
@@ -61,8 +61,8 @@ module _ (s : Space) (user : Bool) where
         → made (interpret translator s user (or_refused (λ old. done (floated r v (x ∷ []))) (reply_to Write n m a).reply) m es ((reply_to Write n m a).grants ++ gs))
         ≡ made (interpret translator s user (or_refused (λ old. done (floated r v (x ∷ []))) (reply_to Write n m a).reply) m es ((reply_to Write n m a).grants ++ []))
     unfolding reply_to is_write interpret made_by store_all
-    store_reply (At p) m es gs = rw (store_none gs)
-    store_reply (Denied f) m es gs = refl
+    store_reply (Ok p) m es gs = rw (store_none gs)
+    store_reply (Err f) m es gs = refl
 
     fresh_storing : FreshOut (storing n va x r v)
     unfolding interpret answered
@@ -72,10 +72,10 @@ module _ (s : Space) (user : Bool) where
           store_reply o.answer o.mem o.buffer gs;
     }
 
-  fresh_cut : (x : Cut) (r : Regs) (v : Floats) → FreshOut (cut_tree x r v)
+  fresh_cut : (x : Option ℕ) (r : Regs) (v : Floats) → FreshOut (cut_tree x r v)
   unfolding cut_tree
-  fresh_cut Unfit r v = fresh_trap _
-  fresh_cut (Fits x) r v = fresh_fine _ v
+  fresh_cut None r v = fresh_trap _
+  fresh_cut (Some x) r v = fresh_fine _ v
 
   -- every floating instruction
   pub fresh_float : (i : FloatInstr) (r : Regs) (v : Floats) → FreshOut (float_tree i r v)

@@ -2,13 +2,9 @@
 use Prim.Native.Nat.{ℕ, ◌+◌, ◌-◌, ◌≤◌, ◌<◌}
 use native.Mathlib.Omega.{arith}
 use mathlib.Core.Bool.{Bool}
-use mathlib.Core.List.{List, [], ◌∷◌}
-use mathlib.Core.Logic.{inl, inr}
+use mathlib.Core.List.{List, []}
 use mathlib.Core.Path.{◌≡◌, refl, sym, ap, ◌∙◌, subst}
 use lib.ListN.{length}
-use types.Run.{OneOf}
-use borrow.Enum.Refused.{Among, opened}
-use denote.Enum.Declared as Declared
 use Rattle.paging.specs.declared.Space.{Space}
 use Rattle.mmu.specs.Good.{Good}
 use Rattle.mmu.specs.Translates.{Kept, result, kept_in, translator}
@@ -22,7 +18,6 @@ use Rattle.rules.specs.Outcome.{Out}
 use Rattle.rules.specs.Execute.{instruction_tree}
 use Rattle.rules.specs.Clock.{next_of}
 use Rattle.rules.specs.Step.{State, step}
-use Rattle.contracts.specs.contracts.End.{the_type as End·type}
 use Rattle.contracts.specs.declared.End.{End}
 use Rattle.contracts.specs.declared.End.TheVariants.{Ok}
 use Rattle.contracts.specs.declared.Done.{Done}
@@ -33,17 +28,6 @@ use Rattle.machine.specs.Settled.{settled}
 use Rattle.machine.specs.Instructions.{raise_count, instruction_from, InstructionsEnd, InstructionsMade}
 use Rattle.machine.proofs.SettledLaws.{settled_ok, settled_count, by_end}
 use Rattle.machine.proofs.QuietStep.{run_on, step_quiet}
-
--- an end other than Ok
-pub not_ok : (e : End) → Among (1 ∷ 2 ∷ 3 ∷ 4 ∷ 5 ∷ []) (Declared.tag_of End·type e) → e ≡ Ok → ⊥
-not_ok e h q = none (subst (λ (x : End). OneOf (1 ∷ 2 ∷ 3 ∷ 4 ∷ 5 ∷ []) (Declared.tag_of End·type x)) q (opened h))
-  where
-    none : OneOf (1 ∷ 2 ∷ 3 ∷ 4 ∷ 5 ∷ []) 0 → ⊥
-    none (inl p) = omega (arith, p)
-    none (inr (inl p)) = omega (arith, p)
-    none (inr (inr (inl p))) = omega (arith, p)
-    none (inr (inr (inr (inl p)))) = omega (arith, p)
-    none (inr (inr (inr (inr p)))) = omega (arith, p)
 
 module _ (c : Cpu) (limit : ℕ) (m l : List ℕ) where
   -- no step is made yet

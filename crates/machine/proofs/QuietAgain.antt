@@ -1,13 +1,14 @@
 -- Document 01, "One step", rules 1 to 3: quiet steps after quiet steps, whatever f and g are by then.
+use Rattle.std.proofs.Common.{Option}
 use Prim.Native.Nat.{ℕ, ◌+◌, ◌-◌, ◌≤◌}
 use native.Mathlib.Omega.{arith}
 use mathlib.Core.Bool.{Bool, true, false}
 use mathlib.Core.Path.{◌≡◌, refl, ap}
 use lib.Dec.{eqb}
 use borrow.Author.Tests.{eqb-true}
+use Rattle.rules.specs.declared.Key.{Key}
 use Rattle.rules.specs.declared.Cpu.{Cpu}
 use Rattle.rules.specs.declared.Floats.{Floats}
-use Rattle.rules.specs.declared.Next.{Next}
 use Rattle.rules.specs.declared.Regs.{Regs}
 use Rattle.rules.specs.Record.{with_regs, with_clock, with_timer, with_floats}
 use Rattle.rules.specs.Clock.{due_of}
@@ -28,7 +29,7 @@ module _ (c : Cpu) (v : Floats) (r : Regs) (later : c.regs.count ≤ r.count) wh
   after_again r' h = ap (λ (t : ℕ). with_regs r' (with_clock (with_timer t c.clock) (with_floats v c))) (timer_again r'.count h)
 
   -- the later ones are quiet if all are
-  pub quiet_again : (k : Next) (limit : ℕ) → Quiet k c limit → r.count ≤ limit → Quiet k (reached c r v) limit
+  pub quiet_again : (k : Option Key) (limit : ℕ) → Quiet k c limit → r.count ≤ limit → Quiet k (reached c r v) limit
   unfolding due_of
   quiet_again k limit q h = record {
     awake = q.awake;

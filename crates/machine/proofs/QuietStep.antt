@@ -1,17 +1,15 @@
 -- Document 01, "One step": a step in which the clock only counts is its instruction and the rest; and a run goes on by a step.
-use Rattle.std.proofs.Common.{if◌then◌else◌}
+use Rattle.std.proofs.Common.{if◌then◌else◌, Option, None}
 use Prim.Native.Nat.{ℕ, suc, ◌+◌, ◌≤◌, ◌<◌}
 use mathlib.Core.Bool.{Bool}
 use mathlib.Core.List.{List, [], ◌∷◌}
 use mathlib.Core.Path.{◌≡◌, sym, ap, ◌∙◌}
 use lib.ListN.{length}
 use Rattle.mmu.specs.Translates.{Kept, result, kept_in, translator}
+use Rattle.rules.specs.declared.Interrupt.{Interrupt}
 use Rattle.rules.specs.declared.Regs.{Regs}
 use Rattle.rules.specs.declared.Cpu.{Cpu}
-use Rattle.rules.specs.declared.Due.{Due}
-use Rattle.rules.specs.declared.Due.TheVariants.{Nothing}
 use Rattle.rules.specs.declared.Key.{Key}
-use Rattle.rules.specs.declared.Next.{Next}
 use Rattle.rules.specs.declared.Stop.{Stop}
 use Rattle.rules.specs.declared.Stop.TheVariants.{Running}
 use Rattle.rules.specs.Record.{is_running}
@@ -38,7 +36,7 @@ run_on ks n n' s e h = ap (λ (i : ℕ). last_of s (steps_of translator ks i s))
     ts : List (Stepped Kept)
     ts = step translator ks s ∷ steps_of translator ks n' (step translator ks s).state
 
-module _ (k : Next) (c : Cpu) (limit : ℕ) (q : Quiet k c limit) (r : Regs) (later : c.regs.count ≤ r.count)
+module _ (k : Option Key) (c : Cpu) (limit : ℕ) (q : Quiet k c limit) (r : Regs) (later : c.regs.count ≤ r.count)
     (below : r.count < limit) (con : List ℕ) where
   -- the end of a step's tree
   at : List ℕ → List ℕ → Tree Final → State Kept
@@ -50,8 +48,8 @@ module _ (k : Next) (c : Cpu) (limit : ℕ) (q : Quiet k c limit) (r : Regs) (la
   unfolding step_by step_tree stepped_by due_tree executed_tree at
   step_quiet {m} {l} {m'} {l'} {d} h =
       let x = after_quiet c (raise_count r) in
-      ap (λ (o : Due). at m l (due_tree o (length m) (length con) (ticked k (after_quiet c r)))) (quiet_due k c limit q r later below)
-      ∙ ap (λ (y : Cpu). at m l (due_tree Nothing (length m) (length con) y)) (quiet_ticked k c limit q r later below)
+      ap (λ (o : Option Interrupt). at m l (due_tree o (length m) (length con) (ticked k (after_quiet c r)))) (quiet_due k c limit q r later below)
+      ∙ ap (λ (y : Cpu). at m l (due_tree None (length m) (length con) y)) (quiet_ticked k c limit q r later below)
       ∙ ap (λ (w : Bool). at m l (if w then ended x else bind (executed_tree x) (settle_tree (length m) (length con) x))) q.awake
       ∙ settled_law (length m) x con (instruction_tree (raise_count r)) m (kept_in l)
       ∙ ap (settled (length m) x con) (sym h.same)

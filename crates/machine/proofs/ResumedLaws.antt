@@ -1,10 +1,9 @@
 -- Document 02, item 7: instructions one after another where the first is known to be a floating one: document 01's table ends at once.
+use Rattle.std.proofs.Common.{Option, Some}
 use Prim.Native.Nat.{ℕ, ◌≤◌, ◌<◌}
 use native.Mathlib.Omega.{arith}
-use borrow.Enum.Refused.{shut}
 use mathlib.Core.Bool.{Bool}
 use mathlib.Core.List.{List}
-use mathlib.Core.Logic.{inr}
 use mathlib.Core.Path.{◌≡◌, refl, subst}
 use lib.ListN.{length}
 use Rattle.paging.specs.declared.Space.{Space}
@@ -12,18 +11,17 @@ use Rattle.mmu.specs.Good.{Good}
 use Rattle.rules.specs.declared.Regs.{Regs}
 use Rattle.contracts.specs.declared.End.TheVariants.{Undecoded}
 use Rattle.contracts.specs.Contract.{ok, bad}
-use Rattle.execute.specs.declared.Ahead.{Ahead}
-use Rattle.execute.specs.declared.Ahead.TheVariants.{Floating}
 use Rattle.execute.specs.Ahead.{LooksAhead}
 use Rattle.machine.specs.Instructions.{EndsFrom}
-use Rattle.machine.proofs.InstructionLaws.{not_ok, instructions_early, instructions_all, executes_beside, from_start}
+use Rattle.machine.proofs.BurstSteps.{not_ok_end}
+use Rattle.machine.proofs.InstructionLaws.{instructions_early, instructions_all, executes_beside, from_start}
 
 module _ (s : Regs) (user : Bool) (space : Space) (limit : ℕ) (m l : List ℕ) (g : Good (length m) space.pdir l) where
   -- below the limit it is under way
-  pub floating_next : {a : Ahead} {w : ℕ} → LooksAhead s space user m l a → a ≡ Floating w → s.count < limit → EndsFrom s user space limit m l (bad s (Undecoded 0 w)) m l
+  pub floating_next : {a : Option ℕ} {w : ℕ} → LooksAhead s space user m l a → a ≡ Some w → s.count < limit → EndsFrom s user space limit m l (bad s (Undecoded 0 w)) m l
   floating_next {w = w} h e below = λ c k u v.
       instructions_early c limit m l (from_start s user space limit m l g (omega (arith, below)) c k u v) below refl (executes_beside u v (subst (LooksAhead s space user m l) e h))
-      (not_ok (Undecoded 0 w) (shut (inr (inr (inr (inr refl))))))
+      (not_ok_end (Undecoded 0 w) refl)
 
   -- at the limit no instruction is
   pub none_left : s.count ≤ limit → limit ≤ s.count → EndsFrom s user space limit m l (ok s) m l

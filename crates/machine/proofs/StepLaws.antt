@@ -1,18 +1,17 @@
 -- Document 01, "One step", rules 4 and 5, and document 02, item 1: the three ends of a step.
-use Rattle.std.proofs.Common.{if◌then◌else◌}
+use Rattle.std.proofs.Common.{if◌then◌else◌, Option, Some, None}
 use Prim.Native.Nat.{ℕ, ◌+◌}
 use mathlib.Core.Bool.{Bool, true, false}
 use mathlib.Core.List.{List, []}
 use mathlib.Core.Path.{◌≡◌, refl, sym, ap, ◌∙◌, subst}
 use lib.ListN.{length}
+use Rattle.paging.specs.declared.TrapCode.{TrapCode}
 use Rattle.mmu.specs.Good.{Good}
 use Rattle.mmu.specs.Translates.{result, kept_in, translator}
+use Rattle.rules.specs.declared.Key.{Key}
 use Rattle.rules.specs.declared.Cpu.{Cpu}
 use Rattle.rules.specs.declared.Floats.{Floats}
-use Rattle.rules.specs.declared.Due.{Due}
-use Rattle.rules.specs.declared.Due.TheVariants.{Nothing, Now}
 use Rattle.rules.specs.declared.Interrupt.{Interrupt}
-use Rattle.rules.specs.declared.Next.{Next}
 use Rattle.rules.specs.declared.Pending.{Pending}
 use Rattle.rules.specs.Record.{with_floats}
 use Rattle.rules.specs.Tree.{bind, interpret}
@@ -33,7 +32,7 @@ use Rattle.machine.proofs.SettledLaws.{settled_law}
 -- ---- the rest of a step
 
 -- rules 1 to 3 leave the address space
-module _ (k : Next) (c : Cpu) {t : Cpu} (f : t ≡ ticked k c) {n : ℕ} {l : List ℕ} (g : Good n c.space.pdir l) where
+module _ (k : Option Key) (c : Cpu) {t : Cpu} (f : t ≡ ticked k c) {n : ℕ} {l : List ℕ} (g : Good n c.space.pdir l) where
   pub good_ticked : Good n t.space.pdir l
   unfolding ticked
   good_ticked = subst (λ (y : Cpu). Good n y.space.pdir l) (sym f) g
@@ -41,20 +40,20 @@ module _ (k : Next) (c : Cpu) {t : Cpu} (f : t ≡ ticked k c) {n : ℕ} {l : Li
   pub good_awake : {y : Cpu} → y ≡ awake t → Good n y.space.pdir l
   good_awake e = subst (λ (y : Cpu). Good n y.space.pdir l) (sym e) good_ticked
 
-module _ (k : Next) (c : Cpu) {t : Cpu} (f : t ≡ ticked k c) {d : Due} (e : d ≡ due_of t) {m con l : List ℕ} where
+module _ (k : Option Key) (c : Cpu) {t : Cpu} (f : t ≡ ticked k c) {d : Option Interrupt} (e : d ≡ due_of t) {m con l : List ℕ} where
   -- a step by its tree, with what is due
-  by_due : (o : Due) → d ≡ o → {x : Cpu} {m' con' l' : List ℕ}
+  by_due : (o : Option Interrupt) → d ≡ o → {x : Cpu} {m' con' l' : List ℕ}
       → Finishes (due_tree o (length m) (length con) t) t m con l x m' con' l'
       → Steps c k m con l x m' con' l'
   unfolding step_by step_tree stepped_by ticked
   by_due o q {x} {m'} {con'} {l'} h =
       let h' : Finishes (due_tree (due_of (ticked k c)) (length m) (length con) (ticked k c)) (ticked k c) m con l x m' con' l' =
       subst (λ (y : Cpu). Finishes (due_tree (due_of y) (length m) (length con) y) y m con l x m' con' l') f
-      (subst (λ (y : Due). Finishes (due_tree y (length m) (length con) t) t m con l x m' con' l') (sym q ∙ e) h) in
+      (subst (λ (y : Option Interrupt). Finishes (due_tree y (length m) (length con) t) t m con l x m' con' l') (sym q ∙ e) h) in
       record { same = h'.same; good = h'.good }
 
   -- an interrupt is due: waiting ends, and the trap is delivered and clears its mark
-  pub step_due : {i : Interrupt} {left : Pending} {code : ℕ} {y x : Cpu} {m' l' : List ℕ} → d ≡ Now i → left ≡ cleared i t.clock.pending
+  pub step_due : {i : Interrupt} {left : Pending} {code : TrapCode} {y x : Cpu} {m' l' : List ℕ} → d ≡ Some i → left ≡ cleared i t.clock.pending
       → code ≡ interrupt_code i → y ≡ awake t → Finishes (deliver_tree y left code t.regs.pc) y m con l x m' con l'
       → Steps c k m con l x m' con l'
   unfolding due_tree
@@ -64,19 +63,19 @@ module _ (k : Next) (c : Cpu) {t : Cpu} (f : t ≡ ticked k c) {d : Due} (e : d 
       let h₂ : Finishes (deliver_tree (awake t) (cleared i t.clock.pending) code t.regs.pc) (awake t) m con l x m' con l' =
       subst (λ (z : Pending). Finishes (deliver_tree (awake t) z code t.regs.pc) (awake t) m con l x m' con l') p h₁ in
       let h₃ : Finishes (interrupt_tree i t) (awake t) m con l x m' con l' =
-      subst (λ (z : ℕ). Finishes (deliver_tree (awake t) (cleared i t.clock.pending) z t.regs.pc) (awake t) m con l x m' con l') r h₂ in
-      by_due (Now i) q (record { same = h₃.same; good = h₃.good })
+      subst (λ (z : TrapCode). Finishes (deliver_tree (awake t) (cleared i t.clock.pending) z t.regs.pc) (awake t) m con l x m' con l') r h₂ in
+      by_due (Some i) q (record { same = h₃.same; good = h₃.good })
 
   -- the machine waits
-  pub step_waits : {x : Cpu} → d ≡ Nothing → t.system.waiting ≡ true → x ≡ t → Good (length m) t.space.pdir l → Steps c k m con l x m con l
+  pub step_waits : {x : Cpu} → d ≡ None → t.system.waiting ≡ true → x ≡ t → Good (length m) t.space.pdir l → Steps c k m con l x m con l
   unfolding due_tree space_after
   step_waits {x} q w p g =
       let tree = bind (executed_tree t) (settle_tree (length m) (length con) t) in
-      by_due Nothing q
+      by_due None q
       (subst (λ (b : Bool). Finishes (if b then ended t else tree) t m con l x m con l) (sym w) (finishes_ended {k = t} {c = t} p g))
 
   -- an instruction, and the rest
-  pub step_executes : {b : FloatDone} {m' l' : List ℕ} {x : Cpu} {m'' con'' l'' : List ℕ} → d ≡ Nothing → t.system.waiting ≡ false → length m' ≡ length m
+  pub step_executes : {b : FloatDone} {m' l' : List ℕ} {x : Cpu} {m'' con'' l'' : List ℕ} → d ≡ None → t.system.waiting ≡ false → length m' ≡ length m
       → BurstEnd c (c.regs.count + 1) m l b m' l'
       → Finishes (settle_tree (length m') (length con) (with_floats b.floats t) (out_by b.regs b.end)) (with_floats b.floats t) m' con l' x m'' con'' l''
       → Steps c k m con l x m'' con'' l''
@@ -93,11 +92,11 @@ module _ (k : Next) (c : Cpu) {t : Cpu} (f : t ≡ ticked k c) {d : Due} (e : d 
       ∙ ap (λ (y : Cpu). settled (length m) y con (instruction_from c m l)) (sym f)
       ∙ ap (λ (y : Cpu). settled (length m) t con (made (interpret translator y.space y.system.user (instruction_tree y.regs) m (kept_in l) []))) (sym f)
       ∙ sym (settled_law (length m) t con (instruction_tree t.regs) m (kept_in l)) in
-      by_due Nothing q
+      by_due None q
       (subst (λ (b : Bool). Finishes (if b then ended t else tree) t m con l x m'' con'' l'') (sym w) (record { same = whole; good = s.good }))
 
   -- the same in the old mode: f and g are the record's
-  pub step_executes_old : {b : Done} {m' l' : List ℕ} {x : Cpu} {m'' con'' l'' : List ℕ} → d ≡ Nothing → t.system.waiting ≡ false → length m' ≡ length m
+  pub step_executes_old : {b : Done} {m' l' : List ℕ} {x : Cpu} {m'' con'' l'' : List ℕ} → d ≡ None → t.system.waiting ≡ false → length m' ≡ length m
       → BurstEnd c (c.regs.count + 1) m l (float_bad b.regs c.floats b.end) m' l'
       → Finishes (settle_tree (length m') (length con) t (out_of b)) t m' con l' x m'' con'' l''
       → Steps c k m con l x m'' con'' l''

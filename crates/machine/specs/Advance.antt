@@ -1,9 +1,8 @@
 -- Document 01, "Numbers returned": one step or more of a run that goes on.
-use Rattle.std.specs.Prelude.{ℕ, ◌+◌, ◌-◌, ◌≤◌, ◌<◌, ◌^◌, ◌≡◌, List, length}
+use Rattle.std.specs.Prelude.{ℕ, ◌+◌, ◌-◌, ◌≤◌, ◌<◌, ◌^◌, ◌≡◌, List, length, Option}
 use Rattle.mmu.specs.Good.{Good}
 use Rattle.rules.specs.declared.Cpu.{Cpu}
 use Rattle.rules.specs.declared.Key.{Key}
-use Rattle.rules.specs.declared.Next.{Next}
 use Rattle.rules.specs.declared.Stop.TheVariants.{Running}
 use Rattle.rules.specs.Clock.{next_of}
 use Rattle.rules.specs.Step.{settle_tree}
@@ -36,7 +35,7 @@ pub record Finished (c : Cpu) (left n : ℕ) (b : Done) (m con l : List ℕ) (g 
       × Finishes (settle_tree (length m) (length con) (after_quiet c (raise_count b.regs)) (out_of b)) (after_quiet c (raise_count b.regs)) m con l g.cpu m' con' l'
 
 -- what is left falls, and the run ends in the same state; where the machine stops on the way, steps may be left
-pub record Advances (c : Cpu) (left : ℕ) (next : Next) (m con l : List ℕ) (g : Advanced) (m' con' l' : List ℕ) : Type 0 where
+pub record Advances (c : Cpu) (left : ℕ) (next : Option Key) (m con l : List ℕ) (g : Advanced) (m' con' l' : List ℕ) : Type 0 where
   pub good : Good (length m') g.cpu.space.pdir l'
   pub less : g.left < left
   pub count : g.cpu.regs.count + g.left ≡ c.regs.count + left

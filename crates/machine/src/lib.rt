@@ -6,7 +6,7 @@ ghost use Rattle.mmu.specs.Good.{Good};
 ghost use Rattle.rules.specs.Record.{with_count, with_regs, with_floats};
 ghost use Rattle.rules.specs.Execute.{moved};
 ghost use Rattle.rules.specs.Step.{awake as awake_of, settle_tree};
-ghost use Rattle.contracts.specs.Contract.{float_bad, out_of, Finishes};
+ghost use Rattle.contracts.specs.Contract.{out_of, Finishes};
 ghost use Rattle.clock.specs.Taken.{KeyFits};
 ghost use Rattle.machine.specs.Instructions.{raise_count, EndsFrom};
 ghost use Rattle.machine.specs.Burst.{BurstEnd};
@@ -14,9 +14,9 @@ ghost use Rattle.machine.specs.Step.{Steps};
 ghost use Rattle.machine.specs.Advance.{Ready, EndsWithin, Finished, Advances};
 
 use contracts::{Done, End, FloatDone};
-use execute::Ahead;
-use paging::Space;
-use rules::{Cpu, Due, Floats, Next, Regs};
+use mmu::Bus;
+use paging::{Space, TrapCode};
+use rules::{Cpu, Floats, Key, Regs, System};
 
 // A record on its way through a run, with the steps that are left.
 #[derive(Clone, Copy)]
@@ -26,8 +26,7 @@ pub struct Advanced {
 }
 
 // Instructions of document 01's table one after another, with no clock event between them, up to the step count `limit`, or to the first that does not end well:
-// that one is not counted. This is the one call site of `execute::instruction`: with a second one it is no longer inlined. In this order of the parameters the loop
-// takes fewest instructions.
+// that one is not counted. The bus is made here: behind a reference it is in memory in the whole loop, which then takes a tenth longer.
 fn instructions(
     s: Regs,
     limit: u64,
@@ -40,13 +39,21 @@ fn instructions(
     requires { Good (length mem.old) space.pdir tlb.old × (s.count ≤ limit) }
     ensures { EndsFrom s user space limit mem.old tlb.old result mem.new tlb.new }
 {
+    let mut bus = Bus {
+        mem,
+        tlb,
+        hint,
+        space,
+        user,
+    };
     let mut r = s;
     while r.count < limit {
-        let d = execute::instruction(r, user, space, mem, tlb, hint);
+        let d = execute::instruction(r, &mut bus);
         let e = d.end;
         let End::Ok = e else {
             return contracts::ended(r, e);
         };
+        // By a struct update the loop would take an instruction a step more.
         let count = r.count + 1;
         r = d.regs;
         r.count = count;
@@ -68,8 +75,15 @@ fn resumed(
     requires { Good (length mem.old) space.pdir tlb.old × (s.count ≤ limit) }
     ensures { EndsFrom s user space limit mem.old tlb.old result mem.new tlb.new }
 {
-    let a = execute::look_ahead(s, user, space, mem, tlb, hint);
-    let Ahead::Floating(w) = a else {
+    let bus = Bus {
+        mem,
+        tlb,
+        hint,
+        space,
+        user,
+    };
+    let a = execute::look_ahead(s, &bus);
+    let Some(w) = a else {
         return instructions(s, limit, space, user, mem, tlb, hint);
     };
     if s.count < limit {
@@ -78,24 +92,25 @@ fn resumed(
     contracts::fine(s)
 }
 
+// The step is counted.
+fn raise_count(r: Regs) -> Regs
+    requires { r.count + 1 < 2 ^ 64 }
+    ensures { result ≡ raise_count r }
+{
+    Regs {
+        count: r.count + 1,
+        ..r
+    }
+}
+
 // The step is counted, and pc moves 4 on.
 fn fetched(r: Regs) -> Regs
     requires { r.count + 1 < 2 ^ 64 }
     ensures { result ≡ moved (raise_count r) }
 {
-    let mut n = r;
-    n.pc = word::sum(r.pc, 4);
-    n.count = r.count + 1;
-    n
-}
-
-fn burst_done(r: Regs, v: Floats, e: End) -> FloatDone
-    ensures { result ≡ float_bad r v e }
-{
-    FloatDone {
-        regs: r,
-        floats: v,
-        end: e,
+    Regs {
+        pc: word::sum(r.pc, 4),
+        ..raise_count(r)
     }
 }
 
@@ -117,21 +132,26 @@ fn floating_burst(
     let mut e = first.end;
     loop {
         let End::Undecoded { pad: _, word: w } = e else {
-            return burst_done(r, floats, e);
+            return FloatDone {
+                regs: r,
+                floats,
+                end: e,
+            };
         };
-        let d = floating::instruction(
-            fetched(r),
-            floats,
-            w,
-            c.system.user,
-            c.space,
+        let mut bus = Bus {
             mem,
             tlb,
             hint,
-        );
-        let end = d.end;
-        let End::Ok = end else {
-            return burst_done(r, floats, end);
+            space: c.space,
+            user: c.system.user,
+        };
+        let d = floating::instruction(fetched(r), floats, w, &mut bus);
+        let End::Ok = d.end else {
+            return FloatDone {
+                regs: r,
+                floats,
+                end: d.end,
+            };
         };
         let mut n = d.regs;
         n.count = r.count + 1;
@@ -146,11 +166,13 @@ fn floating_burst(
 fn with_done(c: Cpu, d: Done) -> Cpu
     ensures { result ≡ with_regs (with_count c.regs.count d.regs) c }
 {
-    let mut regs = d.regs;
-    regs.count = c.regs.count;
-    let mut n = c;
-    n.regs = regs;
-    n
+    Cpu {
+        regs: Regs {
+            count: c.regs.count,
+            ..d.regs
+        },
+        ..c
+    }
 }
 
 // The rest of a step after its instruction: c is the record before the fetch.
@@ -166,8 +188,7 @@ fn settle(
     ensures { Finishes (settle_tree (length mem.old) (length console.old) c (out_of d))
         c mem.old console.old tlb.old result mem.new console.new tlb.new }
 {
-    let e = d.end;
-    match e {
+    match d.end {
         End::Ok => with_done(c, d),
         End::Unfetched(f) => trap::fault(c, f, c.regs.pc, mem, tlb, hint),
         End::Trap(code) => trap::trap(c, code, trap::next_pc(c), mem, tlb, hint),
@@ -175,7 +196,7 @@ fn settle(
         End::System(op) => system::system(c, op, mem, console, tlb, hint),
         End::Undecoded { pad: _, word: _ } => trap::trap(
             c,
-            paging::FINST,
+            TrapCode::Finst,
             trap::next_pc(c),
             mem,
             tlb,
@@ -188,24 +209,26 @@ fn settle(
 fn with_floats(c: Cpu, v: Floats) -> Cpu
     ensures { result ≡ with_floats v c }
 {
-    let mut n = c;
-    n.floats = v;
-    n
+    Cpu { floats: v, ..c }
 }
 
 // Waiting ends.
 fn awake(c: Cpu) -> Cpu
     ensures { result ≡ awake_of c }
 {
-    let mut n = c;
-    n.system.waiting = false;
-    n
+    Cpu {
+        system: System {
+            waiting: false,
+            ..c.system
+        },
+        ..c
+    }
 }
 
 // One step.
 pub fn step(
     c: Cpu,
-    k: Next,
+    k: Option<Key>,
     mem: &mut [u8],
     console: &mut [u8],
     tlb: &mut [u64],
@@ -213,14 +236,13 @@ pub fn step(
 ) -> Cpu
     requires good { Good (length mem.old) c.space.pdir tlb.old }
     requires count_bound { c.regs.count + 1 < 2 ^ 64 }
-    requires key_fits { KeyFits k.some c.clock.taken }
+    requires key_fits { KeyFits k c.clock.taken }
     ensures { Steps c k mem.old console.old tlb.old result mem.new console.new tlb.new }
 {
     let t = clock::tick(k, c);
-    let d = clock::due_trap(t);
-    if let Due::Now(i) = d {
+    if let Some(i) = clock::due_trap(t) {
         let left = clock::cleared(i, t.clock.pending);
-        let code = rules::interrupt_code(i);
+        let code = TrapCode::from(i);
         return trap::deliver(awake(t), left, code, t.regs.pc, mem, tlb, hint);
     }
     if t.system.waiting {
@@ -228,9 +250,9 @@ pub fn step(
     }
     if c.model.doubles {
         let b = floating_burst(c, c.regs.count + 1, mem, tlb, hint);
-        let e = b.end;
         let x = with_floats(t, b.floats);
-        return settle(x, contracts::ended(b.regs, e), mem, console, tlb, hint);
+        let d = contracts::ended(b.regs, b.end);
+        return settle(x, d, mem, console, tlb, hint);
     }
     let b = instructions(
         c.regs,
@@ -242,16 +264,6 @@ pub fn step(
         hint,
     );
     settle(t, b, mem, console, tlb, hint)
-}
-
-// The step is counted.
-fn raise_count(r: Regs) -> Regs
-    requires { r.count + 1 < 2 ^ 64 }
-    ensures { result ≡ raise_count r }
-{
-    let mut n = r;
-    n.count = r.count + 1;
-    n
 }
 
 // The end of n quiet steps from c, with f and g as they are after them: b says how their instructions ended. Of one that did not end well the step is finished.
@@ -269,16 +281,15 @@ fn finish(
     ensures { Finished c left n b mem.old console.old tlb.old result mem.new console.new tlb.new }
 {
     let r = b.regs;
-    let e = b.end;
-    let End::Ok = e else {
+    let End::Ok = b.end else {
         let y = clock::quiet::after(c, raise_count(r));
         let x = settle(y, b, mem, console, tlb, hint);
         return Advanced {
             cpu: x,
-            left: left - (r.count - c.regs.count) - 1,
+            left: left - (b.regs.count - c.regs.count) - 1,
         };
     };
-    let x = clock::quiet::after(c, r);
+    let x = clock::quiet::after(c, b.regs);
     Advanced {
         cpu: x,
         left: left - n,
@@ -289,13 +300,13 @@ fn finish(
 pub fn advance(
     c: Cpu,
     left: u64,
-    k: Next,
+    k: Option<Key>,
     mem: &mut [u8],
     console: &mut [u8],
     tlb: &mut [u64],
     hint: &mut [u8; 256],
 ) -> Advanced
-    requires { Ready c left mem.old tlb.old × KeyFits k.some c.clock.taken }
+    requires { Ready c left mem.old tlb.old × KeyFits k c.clock.taken }
     ensures { Advances c left k mem.old console.old tlb.old result mem.new console.new tlb.new }
 {
     let n = clock::quiet::steps(k, c, left);
@@ -308,18 +319,9 @@ pub fn advance(
     }
     if c.model.doubles {
         let b = floating_burst(c, c.regs.count + n, mem, tlb, hint);
-        let e = b.end;
         let x = with_floats(c, b.floats);
-        return finish(
-            x,
-            left,
-            n,
-            contracts::ended(b.regs, e),
-            mem,
-            console,
-            tlb,
-            hint,
-        );
+        let d = contracts::ended(b.regs, b.end);
+        return finish(x, left, n, d, mem, console, tlb, hint);
     }
     let b = instructions(
         c.regs,

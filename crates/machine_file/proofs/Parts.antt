@@ -1,7 +1,7 @@
 -- Document 02, item 5: the blocks of registers and entries, by what the readers and writers of their parts promise.
-use Prim.Native.Nat.{ℕ, zero, suc, ◌+◌, ◌%◌, ◌^◌, ◌≤◌, ◌<◌}
+use Prim.Native.Nat.{ℕ, zero, suc, ◌%◌, ◌^◌, ◌<◌}
 use native.Mathlib.Nat.{not-suc-le-zero, le_of_suc-le-suc, mod-eq_of_lt}
-use mathlib.Core.Bool.{Bool, false, ◌&&◌}
+use mathlib.Core.Bool.{Bool, ◌&&◌}
 use mathlib.Core.List.{List, [], ◌∷◌}
 use mathlib.Core.Path.{◌≡◌, refl, ◌∙◌, ap, subst}
 use lib.Dec.{lit<}
@@ -9,37 +9,31 @@ use lib.ListN.{length, get_or}
 use Rattle.paging.specs.Buffer.{buffer_ok}
 use Rattle.rules.specs.declared.Cpu.{Cpu}
 use Rattle.rules.specs.declared.Machine.{Machine}
-use Rattle.rules.specs.Numbers.{numbers_of, record_by, record_of, record_of_low}
+use Rattle.rules.specs.Numbers.{record_by, record_of, record_of_low}
 use Rattle.rules.specs.Run.{registers_ok}
 use Rattle.refusals.specs.View.{entries_of}
-use Rattle.text.specs.Written.{Written}
-use Rattle.encoding.specs.Encoding.{widths, encoded, Fitting, Decoded}
+use Rattle.text.specs.declared.Writer.{Writer}
+use Rattle.text.specs.Adds.{Adds}
+use Rattle.encoding.specs.declared.Width.{Width}
+use Rattle.encoding.specs.declared.Width.TheVariants.{Four}
+use Rattle.encoding.specs.Encoding.{encoded, Fitting, Decoded}
 use Rattle.encoding.specs.Entries.{rights_ok}
 use Rattle.machine_file.specs.declared.Counts.{Counts}
-use Rattle.machine_file.specs.Layout.{header_longs, register_longs, register_bytes, registers_at, entries_at, console_at, memory_at, header_of}
+use Rattle.machine_file.specs.Layout.{header_longs, register_longs, registers_at, entries_at, console_at, memory_at, header_of}
 use Rattle.machine_file.proofs.Counted.{counted}
 use Rattle.machine_file.specs.Judged.{numbers_in, cpu_in, machine_in, numbers_ok, record_ok}
 
--- the registers' widths take the bytes of their block
-pub registers_room : {ls : List Bool} (at : ℕ) {n : ℕ} → ls ≡ register_longs → at + register_bytes ≤ n → at + widths ls ≤ n
-unfolding widths
-registers_room at e h = rw e h
-
-pub registers_count : {ls : List Bool} {ns : List ℕ} (c : Cpu) → ls ≡ register_longs → ns ≡ numbers_of c → length ns ≡ length ls
-registers_count c e q = rw (e, q)
-
 -- the header, with the offsets as they were computed
-pub header_written : (k : Counts) {x y r : ℕ} {f f' : List ℕ} → x ≡ console_at k → y ≡ memory_at k
-    → Written (encoded header_longs (k.pages ∷ k.entries ∷ k.console ∷ registers_at ∷ entries_at ∷ x ∷ y ∷ [])) f 0 f' r
-    → Written (encoded header_longs (header_of k)) f 0 f' r
-header_written k {r = r} {f = f} {f' = f'} p q w =
-    subst (λ (l : List ℕ). Written (encoded header_longs l) f 0 f' r)
-    (λ i. k.pages ∷ k.entries ∷ k.console ∷ registers_at ∷ entries_at ∷ p i ∷ q i ∷ []) w
+pub header_added : (k : Counts) {x y : ℕ} {w w' : Writer} → x ≡ console_at k → y ≡ memory_at k
+    → Adds (encoded header_longs (k.pages ∷ k.entries ∷ k.console ∷ registers_at ∷ entries_at ∷ x ∷ y ∷ [])) w w' → Adds (encoded header_longs (header_of k)) w w'
+header_added k {w = w} {w' = w'} p q a =
+    subst (λ (l : List ℕ). Adds (encoded header_longs l) w w')
+    (λ i. k.pages ∷ k.entries ∷ k.console ∷ registers_at ∷ entries_at ∷ p i ∷ q i ∷ []) a
 
 -- ---- the record
 
 -- a word that was read is below 2^32
-word_fits : (i : ℕ) (ls : List Bool) (vs : List ℕ) → Fitting ls vs → i < length ls → get_or ls i false ≡ false → get_or vs i 0 < 2 ^ 32
+word_fits : (i : ℕ) (ls : List Width) (vs : List ℕ) → Fitting ls vs → i < length ls → get_or ls i Four ≡ Four → get_or vs i 0 < 2 ^ 32
 unfolding Fitting
 word_fits i [] vs f h e = absurd (not-suc-le-zero h)
 word_fits i (l ∷ ls) [] f h e = lit< tt
@@ -50,7 +44,7 @@ word_fits (suc i) (l ∷ ls) (v ∷ vs) f h e = word_fits i ls vs f.1 (le_of_suc
 low_same : (ns : List ℕ) (taken written : ℕ) → Fitting register_longs ns → record_of_low ns taken written ≡ record_of ns taken written
 unfolding record_by
 low_same ns taken written f =
-    let low : (i : ℕ) → i < 25 → get_or register_longs i false ≡ false → get_or ns i 0 % 2 ^ 32 ≡ get_or ns i 0 = λ i h e. mod-eq_of_lt (word_fits i register_longs ns f h e) in
+    let low : (i : ℕ) → i < 25 → get_or register_longs i Four ≡ Four → get_or ns i 0 % 2 ^ 32 ≡ get_or ns i 0 = λ i h e. mod-eq_of_lt (word_fits i register_longs ns f h e) in
     rw (
       low 0 (lit< tt) refl,
       low 1 (lit< tt) refl,

@@ -1,22 +1,24 @@
 -- Document 02, item 5: the file. "The file opens with a header of little-endian words: count of pages, of buffer entries and of console bytes, then the offset of
 -- registers, entries, console and memory. Blocks follow in that order without gaps."
-use Rattle.std.specs.Prelude.{ℕ, ◌+◌, ◌*◌, ◌/◌, ◌^◌, ◌<◌, Bool, true, false, List, [], ◌∷◌, ◌++◌, length, take}
+use Rattle.std.specs.Prelude.{ℕ, ◌+◌, ◌*◌, ◌/◌, ◌^◌, ◌<◌, List, [], ◌∷◌, ◌++◌, length, take}
 use Rattle.rules.specs.declared.Machine.{Machine}
 use Rattle.rules.specs.Numbers.{numbers_of}
 use Rattle.refusals.specs.View.{first_slots, entries_of}
+use Rattle.encoding.specs.declared.Width.{Width}
+use Rattle.encoding.specs.declared.Width.TheVariants.{Four, Eight}
 use Rattle.encoding.specs.Encoding.{encoded}
 use Rattle.encoding.specs.Entries.{entry_bytes, encoded_entries}
 use Rattle.machine_file.specs.declared.Counts.{Counts}
 
 -- "Registers: document 01's numbers and flags, item 1's marks, stop reason, cause (0 none, then item 4's order) and step count", then item 7's mode, f and g:
 -- the order of `numbers_of`, where the step count, f and g have 64 bits
-abbrev pub register_longs : List Bool
+abbrev pub register_longs : List Width
 register_longs =
-    false ∷ false ∷ false ∷ false ∷ false ∷ false ∷ false ∷ false ∷ false ∷ false ∷ false ∷ false ∷ false
-    ∷ false ∷ false ∷ false ∷ false ∷ false ∷ false ∷ false ∷ false ∷ true ∷ false ∷ true ∷ true ∷ []
+    Four ∷ Four ∷ Four ∷ Four ∷ Four ∷ Four ∷ Four ∷ Four ∷ Four ∷ Four ∷ Four ∷ Four ∷ Four
+    ∷ Four ∷ Four ∷ Four ∷ Four ∷ Four ∷ Four ∷ Four ∷ Four ∷ Eight ∷ Four ∷ Eight ∷ Eight ∷ []
 
-abbrev pub header_longs : List Bool
-header_longs = false ∷ false ∷ false ∷ false ∷ false ∷ false ∷ false ∷ []
+abbrev pub header_longs : List Width
+header_longs = Four ∷ Four ∷ Four ∷ Four ∷ Four ∷ Four ∷ Four ∷ []
 
 -- the bytes of the header, seven words, and of the registers
 abbrev pub header_bytes : ℕ

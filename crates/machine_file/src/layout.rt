@@ -1,12 +1,14 @@
 // Document 02, item 5: the header, and what follows from its counts: the offsets of the blocks, and the file's length.
 ghost use Rattle.std.specs.Prelude.{◌+◌, ◌≤◌, ◌≡◌, length};
-ghost use Rattle.text.specs.Written.{Written};
+ghost use Rattle.text.specs.Adds.{Adds, Room};
 ghost use Rattle.encoding.specs.Encoding.{encoded};
 ghost use Rattle.machine_file.specs.Layout.{header_bytes, header_longs, header_of, console_at, memory_at, length_by, counts_of, Small};
 ghost use Rattle.machine_file.specs.Judged.{counts_ok, offsets_ok, length_ok, Counted};
 
 use crate::Counts;
+use encoding::Width;
 use rules::Machine;
+use text::Writer;
 
 // The bytes of the header, of the registers, and of a page.
 pub const HEADER: usize = 28;
@@ -54,12 +56,12 @@ pub fn counts_of(m: Machine, size: usize) -> Counts
     }
 }
 
-// The header. The result is the place after it.
-pub fn put_header(file: &mut [u8], k: Counts) -> usize
-    requires { Small k × (header_bytes ≤ length file.old) }
-    ensures { Written (encoded header_longs (header_of k)) file.old 0 file.new result }
+// The header.
+pub fn put_header(file: &mut Writer, k: Counts)
+    requires { Small k × Room header_bytes file.old }
+    ensures { Adds (encoded header_longs (header_of k)) file.old file.new }
 {
-    let longs = [false; 7];
+    let widths = [Width::Four; 7];
     let numbers = [
         k.pages as u64,
         k.entries as u64,
@@ -69,7 +71,7 @@ pub fn put_header(file: &mut [u8], k: Counts) -> usize
         console_at(k) as u64,
         memory_at(k) as u64,
     ];
-    encoding::put_numbers(file, 0, &longs, &numbers)
+    encoding::put_numbers(file, &widths, &numbers);
 }
 
 // ---- reading

@@ -1,35 +1,32 @@
 // Document 02, item 5: the blocks of registers and of entries, as a record, and refusal 16.
-ghost use Rattle.std.specs.Prelude.{◌+◌, ◌≤◌, ◌≡◌, length};
+ghost use Rattle.std.specs.Prelude.{◌≤◌, ◌≡◌, length};
 ghost use Rattle.rules.specs.Numbers.{numbers_of};
-ghost use Rattle.text.specs.Written.{Written};
+ghost use Rattle.text.specs.Adds.{Adds, Room};
 ghost use Rattle.encoding.specs.Encoding.{encoded, Decoded};
 ghost use Rattle.machine_file.specs.Layout.{register_bytes, register_longs, registers_at, entries_at};
 ghost use Rattle.machine_file.specs.Judged.{cpu_in, machine_in, numbers_ok, record_ok, Held};
 
 use crate::Counts;
 use crate::layout::{HEADER, REGISTERS};
+use encoding::Width;
+use encoding::Width::{Eight, Four};
 use record_numbers::NUMBERS;
 use rules::{Cpu, Machine};
+use text::Writer;
 
 // Which of the numbers take eight bytes: the step count, f and g.
-fn register_longs() -> [bool; NUMBERS]
-    ensures { result ≡ register_longs }
-{
-    let mut longs = [false; NUMBERS];
-    longs[21] = true;
-    longs[23] = true;
-    longs[24] = true;
-    longs
-}
+const WIDTHS: [Width; NUMBERS] = [
+    Four, Four, Four, Four, Four, Four, Four, Four, Four, Four, Four, Four, Four, Four, Four, Four,
+    Four, Four, Four, Four, Four, Eight, Four, Eight, Eight,
+];
 
-// The registers. The result is the place after them.
-pub fn put_registers(file: &mut [u8], at: usize, c: Cpu) -> usize
-    requires { at + register_bytes ≤ length file.old }
-    ensures { Written (encoded register_longs (numbers_of c)) file.old at file.new result }
+// The registers.
+pub fn put_registers(file: &mut Writer, c: Cpu)
+    requires { Room register_bytes file.old }
+    ensures { Adds (encoded register_longs (numbers_of c)) file.old file.new }
 {
-    let longs = register_longs();
     let numbers = record_numbers::numbers_of(c);
-    encoding::put_numbers(file, at, &longs, &numbers)
+    encoding::put_numbers(file, &WIDTHS, &numbers);
 }
 
 // The registers' numbers.
@@ -37,9 +34,8 @@ fn numbers_in(file: &[u8]) -> [u64; NUMBERS]
     requires { entries_at ≤ length file.now }
     ensures { Decoded register_longs file.now registers_at result }
 {
-    let longs = register_longs();
     let mut numbers = [0u64; NUMBERS];
-    encoding::numbers_at(file, HEADER, &longs, &mut numbers);
+    encoding::numbers_at(file, HEADER, &WIDTHS, &mut numbers);
     numbers
 }
 

@@ -1,14 +1,18 @@
 -- Loads and stores, shown once over the width n in bytes. Document 01, "What is emulated": "Words are little-endian".
 use Prim.Native.Nat.{ℕ, zero, suc, ◌+◌, ◌*◌, ◌/◌, ◌%◌, ◌^◌, ◌≤◌, ◌<◌}
-use mathlib.Core.List.{List}
+use mathlib.Core.List.{List, [], ◌∷◌}
 use mathlib.Core.Logic.{◌⊎◌, inl, inr, ⊎_elim}
 use mathlib.Core.Path.{◌≡◌, refl, sym, ◌∙◌, ap}
 use native.Mathlib.Nat.{zero-add, add-zero, suc-add, add-suc, mul_assoc, pow-suc, pow-succ', div-one, mod-one, div-div-eq-div-mul}
 use native.Mathlib.Omega.{arith}
 use lib.Arith.{mod-mul}
 use lib.Dec.{lit<}
-use lib.ListN.{length, get_or, set, length-set}
+use lib.ListN.{length, get_or, set, take, length-set}
 use lib.Seq.{get_or-set_same, get_or-set_other}
+use borrow.Rule.Slice.PartMut.{put_mid}
+use Rattle.std.proofs.lemmas.Slice.{put_mid-paste}
+use Rattle.std.proofs.lemmas.List.{take_all}
+use Rattle.std.proofs.lemmas.List.Edits.{sets, sets-eq}
 use Rattle.memory.specs.Memory.{load_n, store_n}
 
 -- ---- splitting
@@ -91,3 +95,58 @@ load_stored (suc n) m at v h =
       mod-mul v (pow256_pos n) c,
     )
     (omega arith)
+
+-- ---- a store as the library writes it
+
+-- the low n bytes of v, the lowest first
+abbrev pub digits : ℕ → ℕ → List ℕ
+digits zero v = []
+digits (suc n) v = v % 256 ∷ digits n (v / 256)
+
+length-digits : (n v : ℕ) → length (digits n v) ≡ n
+length-digits zero v = refl
+length-digits (suc n) v = ap suc (length-digits n (v / 256))
+
+take-digits : (n k v : ℕ) → n ≤ k → take n (digits k v) ≡ digits n v
+take-digits zero k v h = refl
+take-digits (suc n) zero v h = absurd (omega arith)
+take-digits (suc n) (suc k) v h = ap (λ (bs : List ℕ). v % 256 ∷ bs) (take-digits n k (v / 256) (omega arith))
+
+-- the first n of a number's eight bytes
+pub first_digits : (n v : ℕ) → n ≤ 8
+    → take n (v % 256 ∷ v / 256 % 256 ∷ v / 65536 % 256 ∷ v / 16777216 % 256 ∷ v / 4294967296 % 256 ∷ v / 1099511627776 % 256
+    ∷ v / 281474976710656 % 256 ∷ v / 72057594037927936 % 256 ∷ []) ≡ digits n v
+first_digits n v h = ap (take n) eight ∙ take-digits n 8 v h
+  where
+    further : (a b c : ℕ) → a * b ≡ c → v / c ≡ v / a / b
+    further a b c e = rw (← e) (sym (div-div-eq-div-mul v a b))
+
+    eight : (v % 256 ∷ v / 256 % 256 ∷ v / 65536 % 256 ∷ v / 16777216 % 256 ∷ v / 4294967296 % 256 ∷ v / 1099511627776 % 256
+        ∷ v / 281474976710656 % 256 ∷ v / 72057594037927936 % 256 ∷ []) ≡ digits 8 v
+    eight =
+        rw (
+          further 281474976710656 256 72057594037927936 refl,
+          further 1099511627776 256 281474976710656 refl,
+          further 4294967296 256 1099511627776 refl,
+          further 16777216 256 4294967296 refl,
+          further 65536 256 16777216 refl,
+          further 256 256 65536 refl,
+        )
+        refl
+
+-- a store sets them one after another
+store_sets : (n : ℕ) (m : List ℕ) (at v : ℕ) → store_n n m at v ≡ sets m at (digits n v)
+unfolding store_n
+store_sets zero m at v = refl
+store_sets (suc n) m at v = store_sets n (set m at (v % 256)) (suc at) (v / 256)
+
+-- a part of memory in which they are put
+pub store_put : (n : ℕ) (m : List ℕ) (at v k : ℕ) (ys : List ℕ) → at + n ≤ length m → k ≡ n → ys ≡ digits n v → put_mid at k m ys ≡ store_n n m at v
+store_put n m at v k ys h e is =
+    let bs = digits n v in
+    let l : length bs ≡ n = length-digits n v in
+    let all : take n bs ≡ bs = take_all n bs (omega (arith, l)) in
+    let end : at + length bs ≡ at + n = ap (λ (x : ℕ). at + x) l in
+    put_mid-paste at k m ys bs n is (sym e) (sym l)
+    ∙ rw (all, ← end) (sym (sets-eq bs m at (omega (arith, l, h))))
+    ∙ sym (store_sets n m at v)

@@ -12,7 +12,10 @@ pub enum Size {
     Word,
 }
 
+// A load for each width, in its own type: one for all widths would leave thirty casts with their callers.
+
 // One byte.
+#[tactic(auto, unfolding(crate::specs::Memory::load_n))]
 pub fn load1(mem: &[u8], at: usize) -> u8
     requires { at + 1 ≤ length mem.now }
     ensures { result ≡ load_n 1 mem.now at }
@@ -21,62 +24,48 @@ pub fn load1(mem: &[u8], at: usize) -> u8
 }
 
 // Two bytes, the lower one first.
+#[tactic(auto, unfolding(crate::specs::Memory::load_n))]
 pub fn load2(mem: &[u8], at: usize) -> u16
     requires { at + 2 ≤ length mem.now }
     ensures { result ≡ load_n 2 mem.now at }
 {
-    load1(mem, at) as u16 + 256 * load1(mem, at + 1) as u16
+    u16::from_le_bytes([mem[at], mem[at + 1]])
 }
 
 // Four bytes, the lowest first.
+#[tactic(auto, unfolding(crate::specs::Memory::load_n))]
 pub fn load4(mem: &[u8], at: usize) -> u32
     requires { at + 4 ≤ length mem.now }
     ensures { result ≡ load_n 4 mem.now at }
 {
-    load2(mem, at) as u32 + 65536 * load2(mem, at + 2) as u32
+    u32::from_le_bytes([mem[at], mem[at + 1], mem[at + 2], mem[at + 3]])
 }
 
 // Eight bytes, the lowest first.
+#[tactic(auto, unfolding(crate::specs::Memory::load_n))]
 pub fn load8(mem: &[u8], at: usize) -> u64
     requires { at + 8 ≤ length mem.now }
     ensures { result ≡ load_n 8 mem.now at }
 {
-    load4(mem, at) as u64 + 0x1_0000_0000 * load4(mem, at + 4) as u64
+    u64::from_le_bytes([
+        mem[at],
+        mem[at + 1],
+        mem[at + 2],
+        mem[at + 3],
+        mem[at + 4],
+        mem[at + 5],
+        mem[at + 6],
+        mem[at + 7],
+    ])
 }
 
-// The low byte of v.
-pub fn store1(mem: &mut [u8], at: usize, v: u32)
-    requires { at + 1 ≤ length mem.old }
-    ensures { mem.new ≡ store_n 1 mem.old at v }
+// The low N bytes of v, the lowest first.
+pub fn store_bytes<const N: usize>(mem: &mut [u8], at: usize, v: u64)
+    requires width { N ≤ 8 }
+    requires within { at + N ≤ length mem.old }
+    ensures { mem.new ≡ store_n N mem.old at v }
 {
-    mem[at] = (v % 256) as u8;
-}
-
-// The low two bytes of v, the lower one first.
-pub fn store2(mem: &mut [u8], at: usize, v: u32)
-    requires { at + 2 ≤ length mem.old }
-    ensures { mem.new ≡ store_n 2 mem.old at v }
-{
-    store1(mem, at, v);
-    store1(mem, at + 1, v / 256);
-}
-
-// The four bytes of v, the lowest first.
-pub fn store4(mem: &mut [u8], at: usize, v: u32)
-    requires { at + 4 ≤ length mem.old }
-    ensures { mem.new ≡ store_n 4 mem.old at v }
-{
-    store2(mem, at, v);
-    store2(mem, at + 2, v / 65536);
-}
-
-// The eight bytes of v, the lowest first.
-pub fn store8(mem: &mut [u8], at: usize, v: u64)
-    requires { at + 8 ≤ length mem.old }
-    ensures { mem.new ≡ store_n 8 mem.old at v }
-{
-    store4(mem, at, (v % 0x1_0000_0000) as u32);
-    store4(mem, at + 4, (v / 0x1_0000_0000) as u32);
+    mem[at..at + N].copy_from_slice(&v.to_le_bytes()[..N]);
 }
 
 // The bytes of a size as an unsigned number.
@@ -97,15 +86,22 @@ pub fn store(mem: &mut [u8], at: usize, size: Size, v: u32)
     ensures { mem.new ≡ store_n (bytes size) mem.old at v }
 {
     match size {
-        Size::Word => store4(mem, at, v),
-        Size::Half => store2(mem, at, v),
-        Size::Byte => store1(mem, at, v),
+        Size::Word => store_bytes::<4>(mem, at, v as u64),
+        Size::Half => store_bytes::<2>(mem, at, v as u64),
+        Size::Byte => store_bytes::<1>(mem, at, v as u64),
     }
 }
 
+// The bytes of a page.
+const PAGE: usize = 4096;
+
+// The largest memory.
+const LARGEST: usize = 134_217_728;
+
 // Whether a memory size passes refusal 1.
+#[tactic(auto, unfolding(crate::specs::Memory::size_ok))]
 pub fn size_ok(size: usize) -> bool
     ensures { result ≡ size_ok size }
 {
-    (0 < size) & (size % 4096 == 0) & (size <= 134217728)
+    0 < size && size % PAGE == 0 && size <= LARGEST
 }

@@ -1,4 +1,5 @@
 -- What a caller of translation learns beside its equation, and what keeps a memory, a directory and a page buffer good.
+use Rattle.std.proofs.Common.{Ok}
 use Prim.Native.Nat.{ℕ, ◌+◌, ◌%◌, ◌≤◌, ◌<◌}
 use mathlib.Core.Bool.{Bool, true}
 use native.Mathlib.Omega.{arith}
@@ -8,15 +9,16 @@ use lib.ListN.{length}
 use Rattle.memory.specs.declared.Size.{Size}
 use Rattle.memory.specs.Memory.{bytes}
 use Rattle.paging.specs.declared.Access.{Access}
-use Rattle.paging.specs.declared.Answer.{Answer}
+use Rattle.paging.specs.Answer.{Answer}
 use Rattle.paging.specs.declared.Space.{Space}
-use Rattle.paging.specs.declared.Answer.TheVariants.{At}
 use Rattle.paging.specs.Buffer.{buffer_ok}
 use Rattle.paging.specs.Translate.{Request, buffered}
 use Rattle.paging.proofs.BufferLaws.{empty_ok}
 use Rattle.paging.proofs.ValidBuffer.{Keeps, request_keeps}
 use Rattle.buffer.specs.Held.{entries_in, Buffer}
+use Rattle.mmu.specs.declared.bus.Bus.{Bus}
 use Rattle.mmu.specs.Good.{Good}
+use Rattle.mmu.specs.Bus.{SameBus}
 use Rattle.mmu.specs.Translates.{Kept, translator, kept_in, Result, result, seen, request, Translates}
 use Rattle.mmu.proofs.Rules.{Within, translate_within}
 
@@ -42,12 +44,18 @@ length-kept {s} {q} g t = ap (λ (x : Result Answer). length x.mem) t.same ∙ (
 
 -- an answered address lies in memory with all its bytes
 pub at_within : (n : Size) {s : Space} {k : Access} {addr : ℕ} {user : Bool} {m l : List ℕ} {a : Answer} {m' l' : List ℕ} {p : ℕ}
-    → Good (length m) s.pdir l → Translates s (request k n addr user) m l a m' l' → a ≡ At p → p + bytes n ≤ length m'
+    → Good (length m) s.pdir l → Translates s (request k n addr user) m l a m' l' → a ≡ Ok p → p + bytes n ≤ length m'
 unfolding Within
 at_within n {s} {k} {addr} {user} {m} {l} {a} {m'} {l'} {p} g t e =
     let w = translate_within k n addr user m g.directory.whole s.paging s.pdir (entries_in l) g.entries in
     let w' : p + bytes n ≤ length m = subst (Within (length m) (bytes n)) (ap (λ (x : Result Answer). x.answer) (sym t.same) ∙ e) w in
     rw (length-kept g t) w'
+
+-- an access after another one, over the same bus: in the space and the mode that the bus had at first
+pub same_access : {b b' : Bus} → SameBus b b' → {k : Access} {n addr : ℕ} {m l : List ℕ} {a : Answer} {m' l' : List ℕ}
+    → Translates b'.space (record { kind = k; size = n; addr = addr; user = b'.user }) m l a m' l'
+    → Translates b.space (record { kind = k; size = n; addr = addr; user = b.user }) m l a m' l'
+same_access s t = rw (← s.space, ← s.user) t
 
 -- ---- what stays good
 

@@ -1,5 +1,5 @@
 -- An answered address lies in memory with all its bytes. A law of the rules alone.
-use Rattle.std.proofs.Common.{if◌then◌else◌}
+use Rattle.std.proofs.Common.{if◌then◌else◌, Ok, Err}
 use Prim.Native.Nat.{ℕ, ◌+◌, ◌/◌, ◌%◌, ◌≤◌, ◌<◌}
 use native.Mathlib.Omega.{arith}
 use mathlib.Core.Bool.{Bool, true, false}
@@ -15,9 +15,9 @@ use Rattle.memory.specs.declared.Size.TheVariants.{Word, Half, Byte}
 use Rattle.memory.specs.Memory.{bytes}
 use Rattle.paging.specs.declared.Access.{Access}
 use Rattle.paging.specs.declared.Entry.{Entry}
-use Rattle.paging.specs.declared.Answer.{Answer}
-use Rattle.paging.specs.declared.Answer.TheVariants.{At, Denied}
+use Rattle.paging.specs.Answer.{Answer}
 use Rattle.paging.specs.declared.Cause.TheVariants.{AddressBeyondMemory}
+use Rattle.paging.specs.declared.TrapCode.TheVariants.{Fmem}
 use Rattle.paging.specs.Walk.{Found, fault, found}
 use Rattle.paging.specs.Buffer.{hit, buffer_ok}
 use Rattle.paging.specs.Translate.{page_of, in_frame, denied, direct, answer_of, refilled, paged_by, paged, translate_by}
@@ -27,8 +27,8 @@ use Rattle.mmu.specs.Translates.{request}
 
 -- an answer of s bytes lies in n bytes
 unfoldable pub Within : ℕ → ℕ → Answer → Type 0
-Within n s (At p) = p + s ≤ n
-Within n s (Denied f) = Unit {0}
+Within n s (Ok p) = p + s ≤ n
+Within n s (Err f) = Unit {0}
 
 -- an aligned access of a size lies in its page, and below every end of a page that its address is below
 cut_within : (s : Size) (a : ℕ) → cut (bytes s) a % 4096 + bytes s ≤ 4096
@@ -61,7 +61,7 @@ module _ (k : Access) (s : Size) (a : ℕ) (u : Bool) (m : List ℕ) (whole : le
   unfolding direct Within
   direct_within = go (ltb a (length m)) refl
     where
-      go : (b : Bool) → ltb a (length m) ≡ b → Within (length m) (bytes s) (if b then At (cut (bytes s) a) else denied 0 AddressBeyondMemory (request k s a u))
+      go : (b : Bool) → ltb a (length m) ≡ b → Within (length m) (bytes s) (if b then Ok (cut (bytes s) a) else denied Fmem AddressBeyondMemory (request k s a u))
       go true e = cut_below s a (length m) whole (ltb-true _ _ e)
       go false e = tt
 

@@ -1,3 +1,4 @@
 pub mod Good
 pub mod Translates
 pub mod Probes
+pub mod Bus

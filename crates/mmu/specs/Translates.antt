@@ -6,7 +6,7 @@ use Rattle.memory.specs.Memory.{bytes}
 use Rattle.paging.specs.declared.Access.{Access}
 use Rattle.paging.specs.declared.Entry.{Entry}
 use Rattle.paging.specs.declared.Space.{Space}
-use Rattle.paging.specs.declared.Answer.{Answer}
+use Rattle.paging.specs.Answer.{Answer}
 use Rattle.paging.specs.Translate.{Request, Outcome, paged_by, buffered, Translator}
 use Rattle.paging.specs.Counting.{Counted, counted_from, counting}
 use Rattle.buffer.specs.Held.{walks, entries_in, lent, Buffer}

@@ -4,23 +4,17 @@
 ghost use Rattle.std.specs.Prelude.{◌≡◌, ◌+◌, ◌*◌, ◌/◌, ◌%◌, ◌<◌, length};
 ghost use Rattle.word.specs.Word.{cut};
 ghost use Rattle.memory.specs.Memory.{bytes};
-ghost use Rattle.paging.specs.declared.Answer.TheVariants.{Denied};
 ghost use Rattle.buffer.specs.Held.{entries_in, index_of};
 ghost use Rattle.mmu.specs.Good.{Good};
 ghost use Rattle.mmu.specs.Translates.{request, space_of, Refills, Translates};
 ghost use Rattle.mmu.specs.Probes.{Probes};
+ghost use Rattle.mmu.specs.Bus.{SameBus};
 
-use buffer::Hit;
+mod bus;
+
+pub use bus::Bus;
 use memory::Size;
-use paging::{Access, Answer, Cause, Fault, Space};
-use walk::PageWalk;
-
-// What a probe found without a search or a walk: where an access lies, or nothing.
-#[derive(Clone, Copy)]
-pub enum Probed {
-    At(usize),
-    Unknown,
-}
+use paging::{Access, Cause, Fault, TrapCode};
 
 // An address with its low bits dropped to the natural size.
 fn align(addr: u32, size: Size) -> u32
@@ -41,14 +35,14 @@ fn in_frame(frame: u32, addr: u32, size: Size) -> usize
 }
 
 // A fault, with its cause and the address asked.
-fn denied(code: u16, cause: Cause, addr: u32) -> Answer
-    ensures { result ≡ Denied (record { code = code; cause = cause; address = addr }) }
+fn denied(code: TrapCode, cause: Cause, addr: u32) -> Fault
+    ensures { result ≡ record { code = code; cause = cause; address = addr } }
 {
-    Answer::Denied(Fault {
+    Fault {
         code,
         cause,
         address: addr,
-    })
+    }
 }
 
 // A page table walk, which is counted, and whose entry is kept: its page was looked up at `i`.
@@ -61,28 +55,24 @@ fn refill(
     kind: Access,
     user: bool,
     i: usize,
-) -> Answer
+) -> Result<usize, Fault>
     requires { Good (length mem.old) pdir tlb.old × (i ≡ index_of (addr / 4096) (entries_in tlb.old)) }
     ensures { Refills pdir (request kind size addr user) mem.old tlb.old result mem.new tlb.new }
 {
     buffer::raise_walks(tlb);
     let page = addr / 4096;
-    let found = walk::walk(mem, pdir, page, kind, user);
-    match found {
-        PageWalk::Mapped {
-            frame,
-            user: u,
-            write: w,
-        } => {
-            buffer::keep(tlb, i, buffer::pack(page, frame, u, w));
-            Answer::At(in_frame(frame, addr, size))
+    match walk::walk(mem, pdir, page, kind, user) {
+        Ok(m) => {
+            buffer::keep(tlb, i, buffer::pack(page, m.frame, m.user, m.write));
+            Ok(in_frame(m.frame, addr, size))
         }
-        PageWalk::Faulted(code, cause) => denied(code, cause, addr),
+        Err(d) => Err(denied(d.code, d.cause, addr)),
     }
 }
 
 // Translation without the hint: paging off, then a search of the buffer, then a walk. The hint learns where the page's entry stands. It takes
-// the address space in parts: a struct that a function out of line takes is in memory in the whole inner loop, which then costs twice as much.
+// a bus in parts: a struct that a function out of line takes is in memory in the whole inner loop, which then costs twice as much.
+#[inline(never)]
 fn translate_slow(
     mem: &mut [u8],
     tlb: &mut [u64],
@@ -93,123 +83,71 @@ fn translate_slow(
     size: Size,
     kind: Access,
     user: bool,
-) -> Answer
+) -> Result<usize, Fault>
     requires { Good (length mem.old) pdir tlb.old }
     ensures { Translates (space_of paging pdir) (request kind size addr user) mem.old tlb.old result mem.new tlb.new }
 {
     if !paging {
         if (addr as usize) < mem.len() {
-            return Answer::At(align(addr, size) as usize);
+            return Ok(align(addr, size) as usize);
         }
-        return denied(paging::FMEM, Cause::AddressBeyondMemory, addr);
+        return Err(denied(TrapCode::Fmem, Cause::AddressBeyondMemory, addr));
     }
     let page = addr / 4096;
     let i = buffer::lookup(tlb, page as u64);
     hint[(page % 256) as usize] = (i % 256) as u8;
-    let hit = buffer::slot(tlb, i, page as u64, kind, user);
-    let Hit::Frame(frame) = hit else {
-        return refill(mem, tlb, pdir, addr, size, kind, user, i);
-    };
-    Answer::At(in_frame(frame, addr, size))
-}
-
-// The slow translation's answer, taken apart and put together: so that the answer of a hit is never in memory that the slow one was lent, but in registers.
-fn again(a: Answer) -> Answer
-    ensures { result ≡ a }
-{
-    match a {
-        Answer::At(q) => Answer::At(q),
-        Answer::Denied(f) => {
-            let cause = f.cause;
-            denied(f.code, cause, f.address)
-        }
+    match buffer::slot(tlb, i, page as u64, kind, user) {
+        Some(frame) => Ok(in_frame(frame, addr, size)),
+        None => refill(mem, tlb, pdir, addr, size, kind, user, i),
     }
 }
 
-// Where an access lies. The hint says in which slot a page's entry may stand: it is checked on use, and may hold anything. Compilers inline
-// this function, and leave the slow one out of line as it is called twice.
-pub fn translate(
-    mem: &mut [u8],
-    tlb: &mut [u64],
-    hint: &mut [u8; 256],
-    space: Space,
-    addr: u32,
-    size: Size,
-    kind: Access,
-    user: bool,
-) -> Answer
-    requires { Good (length mem.old) space.pdir tlb.old }
-    ensures { Translates space (request kind size addr user) mem.old tlb.old result mem.new tlb.new }
-{
-    if space.paging {
-        let page = addr / 4096;
-        let h = wide(hint[(page % 256) as usize]);
-        let hit = buffer::slot(tlb, h, page as u64, kind, user);
-        let Hit::Frame(frame) = hit else {
-            let a = translate_slow(
-                mem,
-                tlb,
-                hint,
-                space.paging,
-                space.pdir,
+impl<'a> Bus<'a> {
+    // Where an access lies.
+    #[inline(always)]
+    pub fn translate(&mut self, addr: u32, size: Size, kind: Access) -> Result<usize, Fault>
+        ensures bus { SameBus self.old self.new }
+        ensures answer { Translates self.old.space (request kind size addr self.old.user) self.old.mem.now self.old.tlb.now result self.new.mem.now self.new.tlb.now }
+    {
+        let Some(q) = self.probe(addr, size, kind) else {
+            return translate_slow(
+                self.mem,
+                self.tlb,
+                self.hint,
+                self.space.paging,
+                self.space.pdir,
                 addr,
                 size,
                 kind,
-                user,
+                self.user,
             );
-            return again(a);
         };
-        return Answer::At(in_frame(frame, addr, size));
+        Ok(q)
     }
-    if (addr as usize) < mem.len() {
-        return Answer::At(align(addr, size) as usize);
-    }
-    let a = translate_slow(
-        mem,
-        tlb,
-        hint,
-        space.paging,
-        space.pdir,
-        addr,
-        size,
-        kind,
-        user,
-    );
-    again(a)
-}
 
-fn wide(x: u8) -> usize
-    ensures { result ≡ x }
-{
-    x as usize
-}
+    // Where an access lies, if paging is off or the slot that the hint names serves it: nothing is changed.
+    #[inline(always)]
+    pub fn probe(&self, addr: u32, size: Size, kind: Access) -> Option<usize>
+        ensures { Probes self.now.space (request kind size addr self.now.user) self.now.mem.now self.now.tlb.now result }
+    {
+        if self.space.paging {
+            let page = addr / 4096;
+            let hint: &[u8; 256] = self.hint;
+            let named = hint[(page % 256) as usize] as usize;
+            let frame = buffer::slot(self.tlb, named, page as u64, kind, self.user)?;
+            return Some(in_frame(frame, addr, size));
+        }
+        if (addr as usize) < self.mem.len() {
+            return Some(align(addr, size) as usize);
+        }
+        None
+    }
 
-// Where an access lies, if paging is off or the slot that the hint names serves it: nothing is changed. Translation begins so too; it is not made of this function,
-// since its slow part would then have one caller and be inlined with it.
-pub fn probe(
-    mem: &[u8],
-    tlb: &[u64],
-    hint: &[u8; 256],
-    space: Space,
-    addr: u32,
-    size: Size,
-    kind: Access,
-    user: bool,
-) -> Probed
-    requires { Good (length mem.now) space.pdir tlb.now }
-    ensures { Probes space (request kind size addr user) mem.now tlb.now result }
-{
-    if space.paging {
-        let page = addr / 4096;
-        let named = wide(hint[(page % 256) as usize]);
-        let hit = buffer::slot(tlb, named, page as u64, kind, user);
-        let Hit::Frame(frame) = hit else {
-            return Probed::Unknown;
-        };
-        return Probed::At(in_frame(frame, addr, size));
+    // Memory, to read.
+    #[inline(always)]
+    pub fn bytes(&self) -> &[u8]
+        ensures { result.now ≡ self.now.mem.now }
+    {
+        &*self.mem
     }
-    if (addr as usize) < mem.len() {
-        return Probed::At(align(addr, size) as usize);
-    }
-    Probed::Unknown
 }

@@ -6,10 +6,14 @@ use mathlib.Core.List.{List, [], ◌∷◌, ◌++◌, append_assoc}
 use mathlib.Core.Path.{◌≡◌, refl, sym, ◌∙◌, ap}
 use native.Mathlib.Nat.{zero-add, add-zero, add-suc, suc-add}
 use native.Mathlib.Omega.{arith}
-use borrow.Author.Tests.{eqb-true, eq-eqb, ne_eqb}
+use borrow.Author.Tests.{eqb-true}
 use lib.Dec.{eqb}
-use lib.ListN.{length, get_or, take, drop, replicate, length-append, length-replicate, get_or-append}
-use lib.Seq.{take-append-le, take-append_seam, drop-append-add, get_or-drop, get_or_at}
+use lib.ListN.{length, get_or, take, drop, replicate, length-append, length-take, length-replicate}
+use lib.Seq.{take-append_seam, take_at, take-take, drop-append-add, get_or_at}
+use Rattle.std.specs.Str.{IsTrimAsciiEnd}
+use Rattle.std.specs.List.{suffix_len}
+use Rattle.std.specs.Char.{is_ascii_whitespace}
+use Rattle.std.proofs.lemmas.Str.Ascii.{trim_ascii_end_is}
 use Rattle.word.proofs.BoolLaws.{both}
 use Rattle.text.specs.Ascii.{ascii}
 use Rattle.mnemonics.specs.declared.OperandForm.{OperandForm}
@@ -35,28 +39,33 @@ found p op (r ∷ t) e =
     let h = both (p r.form) (all_forms p t) e in
     chosen p (eqb op r.code) r.form (find op t) h.0 (found p op t h.1)
 
--- ---- how long a name is
+-- ---- the name in a cell
 
--- as its cell shows it
-abbrev pub shown_length : List ℕ → ℕ
-shown_length c = if eqb (get_or c 2 0) 32 then 2 else (if eqb (get_or c 3 0) 32 then 3 else 4)
+-- what is left of its first four bytes without the spaces at their end
+name_field : Form → List ℕ
+name_field f = take 4 (cell_of f)
 
 measured : Form → Bool
-measured f = eqb (shown_length (cell_of f)) (length f.name)
+measured f = eqb (length (name_field f) - suffix_len is_ascii_whitespace (name_field f)) (length f.name)
 
-pub name_length_lem : (op : ℕ) → shown_length (cell_of (form_of op)) ≡ length (form_of op).name
-unfolding form_of mnemonics all_forms measured ascii
-name_length_lem op = eqb-true _ _ (found measured op mnemonics refl)
-
-at_most : (s t : Bool) → (if s then 2 else (if t then 3 else 4)) ≤ 4
-at_most true t = omega arith
-at_most false true = omega arith
-at_most false false = omega arith
+name_length : (op : ℕ) → length (name_field (form_of op)) - suffix_len is_ascii_whitespace (name_field (form_of op)) ≡ length (form_of op).name
+unfolding form_of mnemonics all_forms measured name_field ascii
+name_length op = eqb-true _ _ (found measured op mnemonics refl)
 
 pub name_short : (op : ℕ) → length (form_of op).name ≤ 4
-name_short op =
-    let c = cell_of (form_of op) in
-    omega (arith, name_length_lem op, at_most (eqb (get_or c 2 0) 32) (eqb (get_or c 3 0) 32))
+unfolding name_field
+name_short op = omega (arith, name_length op, length-take 4 (cell_of (form_of op)))
+
+pub trimmed : (op : ℕ) {c r : List ℕ} → c ≡ cell_of (form_of op) → IsTrimAsciiEnd (take 4 c) r → r ≡ (form_of op).name
+unfolding name_field
+trimmed op {c} {r} e t =
+    let f = form_of op in
+    let rest = replicate (4 - length f.name) 32 ++ (operand_byte f.operand ∷ 32 ∷ []) in
+    trim_ascii_end_is (name_field f) r (rw e at t)
+    ∙ ap (λ (n : ℕ). take n (name_field f)) (name_length op)
+    ∙ take-take (length f.name) 4 (cell_of f) (name_short op)
+    ∙ ap (take (length f.name)) (append_assoc f.name (replicate (4 - length f.name) 32) (operand_byte f.operand ∷ 32 ∷ []))
+    ∙ take-append_seam f.name rest
 
 -- ---- where an opcode's cell is
 
@@ -86,29 +95,10 @@ from_cell op h =
     let e : 256 ≡ op + suc (255 - op) = omega arith in
     ap (λ (n : ℕ). drop (6 * op) (cells n 0)) e ∙ drop_cells op (suc (255 - op)) 0 ∙ ap (λ (i : ℕ). cells (suc (255 - op)) i) (zero-add op)
 
--- a byte of it
-pub cell_byte : (op i : ℕ) → op < 256 → i < 6 → get_or (cells 256 0) (6 * op + i) 0 ≡ get_or (cell_of (form_of op)) i 0
-cell_byte op i h k =
-    sym (get_or-drop (6 * op) (cells 256 0) i 0)
-    ∙ ap (λ (l : List ℕ). get_or l i 0) (from_cell op h)
-    ∙ get_or-append (cell_of (form_of op)) (cells (255 - op) (suc op)) 0 i (omega (arith, length-cell op))
-
--- its first bytes are the name
-pub cell_name : (op : ℕ) → op < 256 → take (length (form_of op).name) (drop (6 * op) (cells 256 0)) ≡ (form_of op).name
-unfolding pad
-cell_name op h =
-    let f = form_of op in
-    let n = length f.name in
-    ap (take n) (from_cell op h)
-    ∙ take-append-le n (cell_of f) (cells (255 - op) (suc op)) (omega (arith, length-cell op, name_short op))
-    ∙ ap (take n) (append_assoc f.name (pad f) (operand_byte f.operand ∷ 32 ∷ []))
-    ∙ take-append_seam f.name (pad f ++ (operand_byte f.operand ∷ 32 ∷ []))
-
--- as a part of the table
-pub name_part : (op : ℕ) {n : ℕ} → op < 256 → n ≡ length (form_of op).name → take (6 * op + n - 6 * op) (drop (6 * op) (cells 256 0)) ≡ (form_of op).name
-name_part op {n} h e =
-    let k : 6 * op + n - 6 * op ≡ length (form_of op).name = omega arith in
-    ap (λ (j : ℕ). take j (drop (6 * op) (cells 256 0))) k ∙ cell_name op h
+pub cell_taken : (op : ℕ) {n : ℕ} → op < 256 → n ≡ op → take (6 * n + 6 - 6 * n) (drop (6 * n) (cells 256 0)) ≡ cell_of (form_of op)
+cell_taken op {n} h e =
+    let k : 6 * n + 6 - 6 * n ≡ 6 = omega arith in
+    rw (k, e) (ap (take 6) (from_cell op h) ∙ take_at (cell_of (form_of op)) (cells (255 - op) (suc op)) 6 (length-cell op))
 
 -- its fifth byte is the operand's
 cell_operand : (op : ℕ) → get_or (cell_of (form_of op)) 4 0 ≡ operand_byte (form_of op).operand
@@ -119,22 +109,6 @@ cell_operand op =
     (length-append f.name (pad f) ∙ rw length-replicate (omega (arith, name_short op)))
 
 -- ---- by the code's tests
-
--- a name's length by the third and fourth byte of its cell
-module _ (op : ℕ) {x : ℕ} (p : x ≡ get_or (cell_of (form_of op)) 2 0) where
-  length-by : (s t : Bool) → eqb (get_or (cell_of (form_of op)) 2 0) 32 ≡ s → eqb (get_or (cell_of (form_of op)) 3 0) 32 ≡ t
-      → (if s then 2 else (if t then 3 else 4)) ≡ length (form_of op).name
-  length-by s t e f = rw (← e, ← f) (name_length_lem op)
-
-  pub name_of_two : x ≡ 32 → 2 ≡ length (form_of op).name
-  name_of_two e = length-by true _ (eq-eqb _ 32 (sym p ∙ e)) refl
-
-  module _ (n : x ≡ 32 → ⊥) {y : ℕ} (q : y ≡ get_or (cell_of (form_of op)) 3 0) where
-    pub name_of_three : y ≡ 32 → 3 ≡ length (form_of op).name
-    name_of_three e = length-by false true (ne_eqb _ 32 (λ z. n (p ∙ z))) (eq-eqb _ 32 (sym q ∙ e))
-
-    pub name_of_four : (y ≡ 32 → ⊥) → 4 ≡ length (form_of op).name
-    name_of_four e = length-by false false (ne_eqb _ 32 (λ z. n (p ∙ z))) (ne_eqb _ 32 (λ z. e (q ∙ z)))
 
 -- the form that a byte stands for
 byte_immediate : (o : OperandForm) → operand_byte o ≡ 105 → Immediate ≡ o
@@ -152,15 +126,15 @@ byte_nothing Nothing e f = refl
 byte_nothing Immediate e f = absurd (e refl)
 byte_nothing Target e f = absurd (f refl)
 
-module _ (op : ℕ) {x : ℕ} (p : x ≡ get_or (cell_of (form_of op)) 4 0) where
-  is_byte : operand_byte (form_of op).operand ≡ x
-  is_byte = sym (p ∙ cell_operand op)
+module _ (op : ℕ) {c : List ℕ} (p : c ≡ cell_of (form_of op)) where
+  is_byte : operand_byte (form_of op).operand ≡ get_or c 4 0
+  is_byte = sym (ap (λ (l : List ℕ). get_or l 4 0) p ∙ cell_operand op)
 
-  pub form_immediate : x ≡ 105 → Immediate ≡ (form_of op).operand
+  pub form_immediate : get_or c 4 0 ≡ 105 → Immediate ≡ (form_of op).operand
   form_immediate e = byte_immediate (form_of op).operand (is_byte ∙ e)
 
-  pub form_target : x ≡ 116 → Target ≡ (form_of op).operand
+  pub form_target : get_or c 4 0 ≡ 116 → Target ≡ (form_of op).operand
   form_target e = byte_target (form_of op).operand (is_byte ∙ e)
 
-  pub form_nothing : (x ≡ 105 → ⊥) → (x ≡ 116 → ⊥) → Nothing ≡ (form_of op).operand
+  pub form_nothing : (get_or c 4 0 ≡ 105 → ⊥) → (get_or c 4 0 ≡ 116 → ⊥) → Nothing ≡ (form_of op).operand
   form_nothing e f = byte_nothing (form_of op).operand (λ z. e (sym is_byte ∙ z)) (λ z. f (sym is_byte ∙ z))

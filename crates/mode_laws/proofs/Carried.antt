@@ -14,7 +14,9 @@ use Rattle.paging.specs.declared.Fault.{Fault}
 use Rattle.paging.specs.declared.Space.{Space}
 use Rattle.paging.specs.Translate.{Translator}
 use Rattle.paging.specs.declared.Cause.TheVariants.{AddressBeyondMemory}
-use Rattle.paging.specs.TrapCode.{FINST, FMEM, FPRIV, USER}
+use Rattle.paging.specs.declared.TrapCode.{TrapCode}
+use Rattle.paging.specs.declared.TrapCode.TheVariants.{Finst, Fmem, Fpriv}
+use Rattle.paging.specs.TrapCode.{USER}
 use Rattle.paging.specs.Walk.{bit}
 use Rattle.rules.specs.declared.Cpu.{Cpu}
 use Rattle.rules.specs.declared.Floats.{Floats}
@@ -75,15 +77,15 @@ module _ (m : Model) (v : Floats) where
   -- ---- what follows an instruction
 
   -- a frame, stored or not
-  frame_carried : (c : Cpu) (left : Pending) (code pc : ℕ) (r : Reply) → Carried (framed (in_mode m v c) left code pc r) (framed c left code pc r)
+  frame_carried : (c : Cpu) (left : Pending) (code : TrapCode) (pc : ℕ) (r : Reply) → Carried (framed (in_mode m v c) left code pc r) (framed c left code pc r)
   frame_carried c left code pc (got x) = leaf refl
   frame_carried c left code pc (denied f) = leaf refl
 
-  pub deliver_carried : (c : Cpu) (left : Pending) (code pc : ℕ) → Carried (deliver_tree (in_mode m v c) left code pc) (deliver_tree c left code pc)
+  pub deliver_carried : (c : Cpu) (left : Pending) (code : TrapCode) (pc : ℕ) → Carried (deliver_tree (in_mode m v c) left code pc) (deliver_tree c left code pc)
   unfolding deliver_tree
   deliver_carried c left code pc = asks (frame_carried c left code pc)
 
-  trap_carried : (c : Cpu) (code pc : ℕ) → Carried (trap_tree (in_mode m v c) code pc) (trap_tree c code pc)
+  trap_carried : (c : Cpu) (code : TrapCode) (pc : ℕ) → Carried (trap_tree (in_mode m v c) code pc) (trap_tree c code pc)
   unfolding trap_tree
   trap_carried c code pc = carried_if c.system.iena (deliver_carried c c.clock.pending code pc) (leaf refl)
 
@@ -135,13 +137,13 @@ module _ (m : Model) (v : Floats) where
   privileged_carried size console_size Rti old c = asks (read_carried old (λ code. asks (read_carried old (λ pc. ended_carried (returned_carried old code pc)))))
   privileged_carried size console_size Bout old c = carried_if (ltb c.written console_size) (leaf refl) (leaf refl)
   privileged_carried size console_size Pdir old c =
-      carried_if (ltb c.regs.a size) (leaf refl) (fault_carried old (record { code = FMEM; cause = AddressBeyondMemory; address = c.regs.a }) (next_pc old))
+      carried_if (ltb c.regs.a size) (leaf refl) (fault_carried old (record { code = Fmem; cause = AddressBeyondMemory; address = c.regs.a }) (next_pc old))
   privileged_carried size console_size Spag old c = leaf refl
 
   system_carried : (size console_size : ℕ) (op : SysOp) (c : Cpu) → Carried (system_tree size console_size op (in_mode m v c)) (system_tree size console_size op c)
   unfolding system_tree
   system_carried size console_size op c =
-      carried_if c.system.user (trap_carried c FPRIV (next_pc c)) (privileged_carried size console_size op c (with_regs (moved c.regs) c))
+      carried_if c.system.user (trap_carried c Fpriv (next_pc c)) (privileged_carried size console_size op c (with_regs (moved c.regs) c))
 
   -- whatever the instruction came to, unless it was a floating one
   settle_carried : (illegal : Bool) (size console_size : ℕ) (c : Cpu) (o : Out) → Known illegal o
@@ -153,7 +155,7 @@ module _ (m : Model) (v : Floats) where
   settle_carried illegal size console_size c (refused f) k = fault_carried c f (next_pc c)
   settle_carried illegal size console_size c (system op) k = system_carried size console_size op c
   settle_carried illegal size console_size c (floated r x vs) k = absurd k
-  settle_carried illegal size console_size c (undecoded w) k = trap_carried c FINST (next_pc c)
+  settle_carried illegal size console_size c (undecoded w) k = trap_carried c Finst (next_pc c)
 
   -- after every leaf of an instruction's tree
   pub rest_carried : {illegal : Bool} (size console_size : ℕ) (c : Cpu) {t : Tree Out} → Leaves (Known illegal) t

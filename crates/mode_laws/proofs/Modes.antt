@@ -2,7 +2,7 @@
 -- so for both machines. In the old mode the instruction is document 01's, every other word traps FINST, and a step neither reads nor changes f and g (`old_executed`,
 -- `old_undecoded`, `old_step`, `old_floats`). A word with a row in that table does in each mode the same, and changes neither f nor g (`listed_same`, `listed_step`,
 -- `listed_floats`). No step changes the mode (`mode_kept`).
-use Rattle.std.proofs.Common.{if◌then◌else◌}
+use Rattle.std.proofs.Common.{if◌then◌else◌, Option, Some, None}
 use Prim.Native.Nat.{ℕ}
 use mathlib.Core.Path.{◌≡◌, refl, sym, ap, ◌∙◌}
 use mathlib.Core.Bool.{Bool, true, false, true≢false}
@@ -13,15 +13,14 @@ use Rattle.decode.specs.declared.Instr.{Instr}
 use Rattle.decode.specs.declared.Instr.TheVariants.{Illegal}
 use Rattle.paging.specs.declared.Access.TheVariants.{Fetch}
 use Rattle.paging.specs.declared.Fault.{Fault}
-use Rattle.paging.specs.TrapCode.{FINST}
+use Rattle.paging.specs.declared.TrapCode.{TrapCode}
+use Rattle.paging.specs.declared.TrapCode.TheVariants.{Finst}
 use Rattle.paging.specs.Translate.{Translator}
+use Rattle.rules.specs.declared.Interrupt.{Interrupt}
 use Rattle.rules.specs.declared.Cpu.{Cpu}
-use Rattle.rules.specs.declared.Due.{Due}
-use Rattle.rules.specs.declared.Due.TheVariants.{Nothing, Now}
 use Rattle.rules.specs.declared.Floats.{Floats}
 use Rattle.rules.specs.declared.Key.{Key}
 use Rattle.rules.specs.declared.Model.{Model}
-use Rattle.rules.specs.declared.Next.{Next}
 use Rattle.rules.specs.declared.Pending.{Pending}
 use Rattle.rules.specs.declared.Regs.{Regs}
 use Rattle.rules.specs.Tree.{Reply, got, denied, Tree, ask, done, access, bind, after, answered, interpret, Ended}
@@ -51,7 +50,7 @@ old_executed c e = bind_ends (further_tree c) (leaves_all (instruction_tree c.re
 
 -- and a word without a row in its table traps FINST
 pub old_undecoded : (size console_size w : ℕ) (c : Cpu) → c.model.doubles ≡ false → decode_of w ≡ Illegal
-    → bind (bind (execute_tree w (decode_of w) (moved c.regs)) (further_tree c)) (settle_tree size console_size c) ≡ trap_tree c FINST (next_pc c)
+    → bind (bind (execute_tree w (decode_of w) (moved c.regs)) (further_tree c)) (settle_tree size console_size c) ≡ trap_tree c Finst (next_pc c)
 unfolding bind execute_tree settle_tree
 old_undecoded size console_size w c e d =
     ap (λ (i : Instr). bind (bind (execute_tree w i (moved c.regs)) (further_tree c)) (settle_tree size console_size c)) d
@@ -97,11 +96,11 @@ unfetched_known : (f : Fault) → Leaves (Known true) (done (unfetched f))
 unfetched_known f = at_leaf tt
 
 -- in the old mode
-old_due : (v : Floats) (size console_size : ℕ) (c : Cpu) → c.model.doubles ≡ false → (due : Due)
+old_due : (v : Floats) (size console_size : ℕ) (c : Cpu) → c.model.doubles ≡ false → (due : Option Interrupt)
     → Carried c.model v (due_tree due size console_size (in_mode c.model v c)) (due_tree due size console_size c)
 unfolding due_tree
-old_due v size console_size c e (Now i) = deliver_carried c.model v (awake c) _ _ _
-old_due v size console_size c e Nothing =
+old_due v size console_size c e (Some i) = deliver_carried c.model v (awake c) _ _ _
+old_due v size console_size c e None =
     carried_if c.model v c.system.waiting (leaf refl)
     (rw (old_executed (in_mode c.model v c) e, old_executed c e) (rest_carried c.model v size console_size c (instruction_known c.regs)))
 
@@ -151,24 +150,37 @@ module _ (m : Model) (v : Floats) (size console_size : ℕ) (c : Cpu) where
         let x = carried_ends m v tr c.space c.system.user (listed_carried o.answer.reply e) o.mem o.buffer (o.answer.grants ++ []) in
         record { same = ap (after o.events) x }
 
-    listed_due : Listed (fetch_of tr c mem b) → (due : Due) → Same (due_tree due size console_size (in_mode m v c)) (due_tree due size console_size c)
+    listed_due : Listed (fetch_of tr c mem b) → (due : Option Interrupt) → Same (due_tree due size console_size (in_mode m v c)) (due_tree due size console_size c)
     unfolding due_tree
-    listed_due e (Now i) = same_carried (deliver_carried m v (awake c) _ _ _)
-    listed_due e Nothing = same_if c.system.waiting (same_carried (leaf refl)) (same_executed e)
+    listed_due e (Some i) = same_carried (deliver_carried m v (awake c) _ _ _)
+    listed_due e None = same_if c.system.waiting (same_carried (leaf refl)) (same_executed e)
+
+-- rules 1 to 3 are the same in each mode
+ticked_in : (m : Model) (v : Floats) (k : Option Key) (c : Cpu) → ticked k (in_mode m v c) ≡ in_mode m v (ticked k c)
+unfolding ticked
+ticked_in m v None c = refl
+ticked_in m v (Some k) c = refl
 
 module _ {B : Type 0} (tr : Translator B) (ks : List Key) (s : State B) where
-  abbrev next : Next
+  abbrev next : Option Key
   next = next_of ks s.cpu.clock.taken
 
   -- the record after rules 1 to 3
   abbrev clocked : Cpu
   clocked = ticked next s.cpu
 
+  -- the step from the record that rules 1 to 3 give
+  after_clock : Cpu → Stepped B
+  after_clock t =
+      stepped_by tr s.cpu s.console
+      (interpret tr s.cpu.space s.cpu.system.user (due_tree (due_of t) (length s.mem) (length s.console) t) s.mem s.buffer [])
+
   -- a step in the old mode neither reads f and g ..
   pub old_step : (v : Floats) → s.cpu.model.doubles ≡ false → step tr ks (state_in s.cpu.model v s) ≡ stepped_in s.cpu.model v (step tr ks s)
-  unfolding step ticked due_of
+  unfolding step ticked due_of after_clock
   old_step v e =
-      ap (stepped_by tr s.cpu s.console)
+      ap after_clock (ticked_in s.cpu.model v next s.cpu)
+      ∙ ap (stepped_by tr s.cpu s.console)
       (carried_ends s.cpu.model v tr s.cpu.space s.cpu.system.user (old_due v (length s.mem) (length s.console) clocked e (due_of clocked)) s.mem s.buffer [])
 
   -- .. nor changes them
@@ -177,9 +189,10 @@ module _ {B : Type 0} (tr : Translator B) (ks : List Key) (s : State B) where
 
   -- a step on a word of document 01's table does in each mode, with any f and g, the same ..
   pub listed_step : (m : Model) (v : Floats) → Listed (fetch_of tr s.cpu s.mem s.buffer) → step tr ks (state_in m v s) ≡ stepped_in m v (step tr ks s)
-  unfolding step ticked due_of
+  unfolding step ticked due_of after_clock
   listed_step m v e =
-      ap (stepped_by tr s.cpu s.console) (listed_due m v (length s.mem) (length s.console) clocked tr s.mem s.buffer e (due_of clocked)).same
+      ap after_clock (ticked_in m v next s.cpu)
+      ∙ ap (stepped_by tr s.cpu s.console) (listed_due m v (length s.mem) (length s.console) clocked tr s.mem s.buffer e (due_of clocked)).same
 
   -- .. and changes neither f nor g
   pub listed_floats : Listed (fetch_of tr s.cpu s.mem s.buffer) → (step tr ks s).state.cpu.floats ≡ s.cpu.floats
@@ -193,7 +206,7 @@ module _ (c : Cpu) where
   ModeKept f = f.cpu.model ≡ c.model
 
   -- a frame, stored or not
-  frame_mode : (x : Cpu) (left : Pending) (code pc : ℕ) → x.model ≡ c.model → (r : Reply) → Leaves ModeKept (framed x left code pc r)
+  frame_mode : (x : Cpu) (left : Pending) (code : TrapCode) (pc : ℕ) → x.model ≡ c.model → (r : Reply) → Leaves ModeKept (framed x left code pc r)
   frame_mode x left code pc g (got y) = at_leaf g
   frame_mode x left code pc g (denied f) = at_leaf g
 

@@ -3,7 +3,7 @@ use mathlib.Core.Path.{◌≡◌, refl, sym, ap, ◌∙◌, subst}
 use mathlib.Core.Logic.{◌⊎◌, inl, inr}
 use mathlib.Core.Bool.{Bool, true, false}
 use Prim.Native.Nat.{ℕ, suc, ◌+◌, ◌-◌, ◌*◌, ◌/◌, ◌%◌, ◌^◌, ◌≤◌, ◌<◌, min}
-use native.Mathlib.Nat.{min-eq_left, min-eq_right, eq-or-lt_of_le, le_of_lt, add-zero, mod-lt}
+use native.Mathlib.Nat.{eq-or-lt_of_le, add-zero, mod-lt}
 use native.Mathlib.Omega.{arith}
 use borrow.Author.Tests.{lt-ltb, leb-true, leb-false}
 use lib.Dec.{T, leb}
@@ -85,11 +85,8 @@ module _ {x : ℕ} (fits : x < 2 ^ 64) where
     bounded : narrowed (leb (2 ^ 63) x) (x % 2 ^ 63 / 2 ^ 52) (x % 2 ^ 52) ≡ sign_bit (leb (2 ^ 63) x) + min r infinity
     bounded = rw e (high (leb (2 ^ 63) x) (x % 2 ^ 63 / 2 ^ 52) (x % 2 ^ 52) (x % 2 ^ 63) digits parts field small)
 
-    pub single_overflow : 0x7F800000 ≤ r → x / 2 ^ 63 * 2 ^ 31 + 0x7F800000 ≡ single_of x
-    single_overflow h = signed infinity (bounded ∙ ap (λ (z : ℕ). sign_bit (leb (2 ^ 63) x) + z) (min-eq_right h))
-
-    pub single_normal : r < 0x7F800000 → x / 2 ^ 63 * 2 ^ 31 + r ≡ single_of x
-    single_normal h = signed r (bounded ∙ ap (λ (z : ℕ). sign_bit (leb (2 ^ 63) x) + z) (min-eq_left (le_of_lt h)))
+    pub single_bounded : x / 2 ^ 63 * 2 ^ 31 + min r infinity ≡ single_of x
+    single_bounded = signed (min r infinity) bounded
 
   pub single_zero : x % 2 ^ 63 / 2 ^ 52 < 873 → x / 2 ^ 63 * 2 ^ 31 ≡ single_of x
   single_zero h = sym (add-zero (x / 2 ^ 63 * 2 ^ 31)) ∙ signed 0 (zeroed (leb (2 ^ 63) x) (x % 2 ^ 63 / 2 ^ 52) (x % 2 ^ 52) digits h)

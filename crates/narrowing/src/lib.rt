@@ -35,10 +35,7 @@ pub fn narrow(x: u64) -> u32
     if 897 <= field {
         // A normal single: the field less 896, and 29 digits dropped. A carry out of the digits raises the field, and at the end makes infinity.
         let rounded = nearest_even(magnitude - 0x3800_0000_0000_0000, 29);
-        if 0x7F80_0000 <= rounded {
-            return (sign + 0x7F80_0000) as u32;
-        }
-        return (sign + rounded) as u32;
+        return (sign + rounded.min(0x7F80_0000)) as u32;
     }
     if field < 873 {
         // Below half of the least single.

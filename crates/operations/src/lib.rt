@@ -29,13 +29,11 @@ pub fn reg(r: Regs, d: Reg) -> u32
 pub fn put(r: Regs, d: Reg, v: u32) -> Regs
     ensures { result ≡ put_reg d v r }
 {
-    let mut n = r;
     match d {
-        Reg::A => n.a = v,
-        Reg::B => n.b = v,
-        Reg::C => n.c = v,
+        Reg::A => Regs { a: v, ..r },
+        Reg::B => Regs { b: v, ..r },
+        Reg::C => Regs { c: v, ..r },
     }
-    n
 }
 
 // The register that a load's or store's imm is added to.
@@ -61,9 +59,10 @@ pub fn high(x: u32, field: u32) -> u32
 pub fn adjust(r: Regs, imm: u32) -> Regs
     ensures { result ≡ set_sp (sum r.sp imm) r }
 {
-    let mut n = r;
-    n.sp = word::sum(r.sp, imm) / 8 * 8;
-    n
+    Regs {
+        sp: word::sum(r.sp, imm) / 8 * 8,
+        ..r
+    }
 }
 
 // The target of a jump or branch.
@@ -77,71 +76,57 @@ pub fn target(r: Regs, imm: u32) -> u32
 pub fn jump(r: Regs, to: u32) -> Regs
     ensures { result ≡ jumped to r }
 {
-    let mut n = r;
-    n.pc = to / 4 * 4;
-    n
+    Regs {
+        pc: to / 4 * 4,
+        ..r
+    }
 }
 
 // A branch, taken or not.
 pub fn branch(r: Regs, taken: bool, to: u32) -> Regs
     ensures { result ≡ (if taken then jumped to r else r) }
 {
-    if taken {
-        return jump(r, to);
-    }
-    r
+    if taken { jump(r, to) } else { r }
 }
 
 // ---- arithmetic, comparisons, conditions
 
-// What an operation gives: a value, or nothing where the divisor is 0.
-#[derive(Clone, Copy)]
-pub enum Computed {
-    Value(u32),
-    ZeroDivisor,
-}
-
-pub fn compute(op: AluOp, x: u32, y: u32) -> Computed
+// What an operation gives: a value, or none where the divisor is 0.
+pub fn compute(op: AluOp, x: u32, y: u32) -> Option<u32>
     ensures { result ≡ computed op x y }
 {
     match op {
-        AluOp::Add => Computed::Value(word::sum(x, y)),
-        AluOp::Sub => Computed::Value(word::difference(x, y)),
-        AluOp::Mul => Computed::Value(word::product(x, y)),
+        AluOp::Add => Some(word::sum(x, y)),
+        AluOp::Sub => Some(word::difference(x, y)),
+        AluOp::Mul => Some(word::product(x, y)),
+        // Of `(y != 0).then(..)`, and of one guard over the four, the proof is not told what it gives.
         AluOp::Div => {
             if y == 0 {
-                return Computed::ZeroDivisor;
+                None
+            } else {
+                Some(word::quotient(x, y))
             }
-            Computed::Value(word::quotient(x, y))
         }
-        AluOp::Dvu => {
-            if y == 0 {
-                return Computed::ZeroDivisor;
-            }
-            Computed::Value(x / y)
-        }
+        AluOp::Dvu => x.checked_div(y),
         AluOp::Mod => {
             if y == 0 {
-                return Computed::ZeroDivisor;
+                None
+            } else {
+                Some(word::remainder(x, y))
             }
-            Computed::Value(word::remainder(x, y))
         }
-        AluOp::Mdu => {
-            if y == 0 {
-                return Computed::ZeroDivisor;
-            }
-            Computed::Value(x % y)
-        }
-        AluOp::And => Computed::Value(x & y),
-        AluOp::Or => Computed::Value(x | y),
-        AluOp::Xor => Computed::Value(x ^ y),
-        AluOp::Shl => Computed::Value(word::shift_left(x, y)),
-        AluOp::Shr => Computed::Value(word::shift_right(x, y)),
-        AluOp::Sru => Computed::Value(word::shift_right_unsigned(x, y)),
+        AluOp::Mdu => x.checked_rem(y),
+        AluOp::And => Some(x & y),
+        AluOp::Or => Some(x | y),
+        AluOp::Xor => Some(x ^ y),
+        AluOp::Shl => Some(word::shift_left(x, y)),
+        AluOp::Shr => Some(word::shift_right(x, y)),
+        AluOp::Sru => Some(word::shift_right_unsigned(x, y)),
     }
 }
 
 // Whether a condition holds.
+#[tactic(auto, unfolding(rules::specs::Arithmetic::holds))]
 pub fn holds(t: Test, x: u32, y: u32) -> bool
     ensures { result ≡ holds_of t x y }
 {
@@ -151,7 +136,7 @@ pub fn holds(t: Test, x: u32, y: u32) -> bool
         Test::Lt => word::less_signed(x, y),
         Test::Ltu => x < y,
         Test::Ge => !word::less_signed(x, y),
-        Test::Geu => !(x < y),
+        Test::Geu => x >= y,
     }
 }
 
@@ -159,5 +144,5 @@ pub fn holds(t: Test, x: u32, y: u32) -> bool
 pub fn flag(b: bool) -> u32
     ensures { result ≡ flag_of b }
 {
-    if b { 1 } else { 0 }
+    u32::from(b)
 }

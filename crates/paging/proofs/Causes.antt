@@ -1,7 +1,7 @@
 -- Document 02, item 4: why a request is denied. In the table reader it is denied with the first of the seven checks that fails, by the code that comes with this
 -- cause, and answered where none fails (`reader_fault`); so it is in the machine with the page buffer, from a coherent buffer (`request_fault`), and whatever the buffer holds no other
 -- cause is named (`denied_first`).
-use Rattle.std.proofs.Common.{if◌then◌else◌}
+use Rattle.std.proofs.Common.{if◌then◌else◌, Ok}
 use Prim.Native.Nat.{ℕ, ◌%◌}
 use mathlib.Core.Path.{◌≡◌, refl, sym, ap, ◌∙◌}
 use mathlib.Core.Bool.{Bool, true, false, ◌&&◌}
@@ -13,13 +13,14 @@ use lib.ListN.{length}
 use Rattle.word.specs.Word.{cut}
 use Rattle.memory.specs.Memory.{load_n}
 use Rattle.paging.specs.declared.Access.{Access}
-use Rattle.paging.specs.declared.Answer.TheVariants.{At}
 use Rattle.paging.specs.declared.Cause.TheVariants.{AddressBeyondMemory, DirectoryAbsent, DirectoryBeyondMemory, TableAbsent, NoUserRight, NoWriteRight, FrameBeyondMemory}
 use Rattle.paging.specs.declared.Entry.{Entry}
 use Rattle.paging.specs.declared.Fault.{Fault}
 use Rattle.paging.specs.declared.Space.{Space}
 use Rattle.paging.specs.Event.{Event, Words}
-use Rattle.paging.specs.TrapCode.{FMEM, page_fault}
+use Rattle.paging.specs.declared.TrapCode.{TrapCode}
+use Rattle.paging.specs.declared.TrapCode.TheVariants.{Fmem}
+use Rattle.paging.specs.TrapCode.{page_fault}
 use Rattle.paging.specs.Walk.{bit, present, mark, mark_for, dir_at, tab_at, user_ok, write_ok, allows, refused_by, walk_frame, walk_table, walk_below, walk_dir, walk}
 use Rattle.paging.specs.Translate.{Request, page_of, denied, direct, answer_of, refilled, paged_by, paged, translate_by, buffered, walked_by, read_by, reader}
 use Rattle.paging.specs.Buffer.{hit}
@@ -64,7 +65,7 @@ module _ (q : Request) (dw da : ℕ) where
       ≡ fault_of q (if b then first_failing (check (ltb (cut 4096 tw) (length m)) FrameBeyondMemory ∷ []) else some (refused_by dw tw q.user))
   unfolding answer_of walk_table
   table_fault false es m tw ta =
-      ap (λ (c : ℕ). some (record { code = c; cause = refused_by dw tw q.user; address = q.addr })) (sym (refused_code q.kind dw tw q.user))
+      ap (λ (c : TrapCode). some (record { code = c; cause = refused_by dw tw q.user; address = q.addr })) (sym (refused_code q.kind dw tw q.user))
   table_fault true es m tw ta = frame_fault (ltb (cut 4096 tw) (length m)) _ (mark_for q.kind m ta) tw ta
 
   -- the checks of the table word
@@ -119,7 +120,7 @@ module _ (s : Space) (q : Request) (m : List ℕ) (al : s.pdir % 4 ≡ 0) where
   by_paging true = dir_fault (present dw)
   by_paging false = go (ltb q.addr (length m))
     where
-      go : (b : Bool) → fault_in (if b then At (cut q.size q.addr) else denied FMEM AddressBeyondMemory q) ≡ fault_of q (if b then none else some AddressBeyondMemory)
+      go : (b : Bool) → fault_in (if b then Ok (cut q.size q.addr) else denied Fmem AddressBeyondMemory q) ≡ fault_of q (if b then none else some AddressBeyondMemory)
       go true = refl
       go false = refl
 

@@ -1,5 +1,6 @@
 -- Document 01, "Addresses": where an access is answered with an address, the page tables permitted it, in memory as it was before the access. Of the
 -- machine with the page buffer this follows from its agreement with the table reader: entries need no argument of their own.
+use Rattle.std.proofs.Common.{Ok}
 use Prim.Native.Nat.{ℕ, ◌+◌, ◌*◌, ◌/◌, ◌%◌}
 use mathlib.Core.Path.{◌≡◌, refl, sym, ◌∙◌}
 use mathlib.Core.Bool.{Bool, true, false, false≢true}
@@ -10,7 +11,6 @@ use lib.Dec.{ltb}
 use Rattle.word.specs.Word.{cut}
 use Rattle.memory.specs.Memory.{load_n}
 use Rattle.paging.specs.declared.Access.{Access}
-use Rattle.paging.specs.declared.Answer.TheVariants.{At}
 use Rattle.paging.specs.declared.Entry.{Entry}
 use Rattle.paging.specs.declared.Space.{Space}
 use Rattle.paging.specs.Event.{Event, Words}
@@ -79,7 +79,7 @@ module _ (m : List ℕ) (pdir page : ℕ) (k : Access) (user : Bool) where
   walk_permits = dir_permits (present dw) refl
 
 -- an answer at p is in the frame that was found
-answer_permits : {dw tw : ℕ} (q : Request) (p : ℕ) (o : Found) → answer_of q o ≡ At p → FoundPermits dw tw q.kind q.user o → Permits dw tw q.kind q.user (p / 4096)
+answer_permits : {dw tw : ℕ} (q : Request) (p : ℕ) (o : Found) → answer_of q o ≡ Ok p → FoundPermits dw tw q.kind q.user o → Permits dw tw q.kind q.user (p / 4096)
 unfolding answer_of
 answer_permits q p (fault code cause) e g = let z : ◌≡◌ {A = ℕ} 0 1 = cc in absurd (omega arith)
 answer_permits q p (found f u w da ta) e g =
@@ -88,7 +88,7 @@ answer_permits q p (found f u w da ta) e g =
 
 module _ (s : Space) (q : Request) (m : List ℕ) (p : ℕ) (al : s.pdir % 4 ≡ 0) where
   -- the table reader
-  reader_permits : (on : Bool) → on ≡ true → (read_by on s.pdir q m).answer ≡ At p → PagePermits m s.pdir (page_of q) q.kind q.user (p / 4096)
+  reader_permits : (on : Bool) → on ≡ true → (read_by on s.pdir q m).answer ≡ Ok p → PagePermits m s.pdir (page_of q) q.kind q.user (p / 4096)
   unfolding read_by
   reader_permits false h e = absurd (false≢true h)
   reader_permits true h e =
@@ -99,6 +99,6 @@ module _ (s : Space) (q : Request) (m : List ℕ) (p : ℕ) (al : s.pdir % 4 ≡
 
 -- the machine with the page buffer
 pub request_permits : (s : Space) (q : Request) (m : List ℕ) (es : List Entry) (hs : List Words) (p : ℕ) → Sound s m es hs → s.paging ≡ true
-    → (buffered.translate s q m es).answer ≡ At p → PagePermits m s.pdir (page_of q) q.kind q.user (p / 4096)
+    → (buffered.translate s q m es).answer ≡ Ok p → PagePermits m s.pdir (page_of q) q.kind q.user (p / 4096)
 request_permits s q m es hs p o h e =
     reader_permits s q m p o.valid.aligned s.paging h (sym (request_agrees s q m es hs o).answer ∙ e)

@@ -8,7 +8,7 @@ use Rattle.paging.specs.declared.Access.{Access}
 use Rattle.paging.specs.declared.Access.TheVariants.{Fetch, Read, Write}
 use Rattle.paging.specs.declared.Entry.{Entry}
 use Rattle.paging.specs.Event.{Words}
-use Rattle.paging.specs.Walk.{is_write, user_ok, write_ok, allows, mark_for, found, Walked, walk_frame, walk_table, walk_below, walk_dir, walk}
+use Rattle.paging.specs.Walk.{is_write, user_ok, write_ok, allows, mark_for, Walked, walk_frame, walk_table, walk_below, walk_dir, walk}
 use Rattle.paging.specs.Buffer.{serves}
 use Rattle.paging.specs.Translate.{Request, in_frame, answer_of}
 use Rattle.word.proofs.BoolLaws.{both}

@@ -1,16 +1,17 @@
 -- Document 02, item 4: the seven checks of translation, in its order, "which is document 01's order of checking", and the trap code that comes with each cause.
-use Rattle.std.specs.Prelude.{ℕ, Bool, ◌||◌, List, [], ◌∷◌, ltb, length, if◌then◌else◌}
+use Rattle.std.specs.Prelude.{ℕ, Bool, ◌||◌, List, [], ◌∷◌, ltb, length, if◌then◌else◌, Ok, Err}
 use Rattle.std.proofs.Math.Option.{Option, none, some}
 use Rattle.word.specs.Word.{cut}
 use Rattle.memory.specs.Memory.{load_n}
 use Rattle.paging.specs.declared.Access.{Access}
-use Rattle.paging.specs.declared.Answer.{Answer}
-use Rattle.paging.specs.declared.Answer.TheVariants.{At, Denied}
+use Rattle.paging.specs.Answer.{Answer}
 use Rattle.paging.specs.declared.Cause.{Cause}
 use Rattle.paging.specs.declared.Cause.TheVariants.{AddressBeyondMemory, DirectoryAbsent, DirectoryBeyondMemory, TableAbsent, NoUserRight, NoWriteRight, FrameBeyondMemory}
 use Rattle.paging.specs.declared.Fault.{Fault}
 use Rattle.paging.specs.declared.Space.{Space}
-use Rattle.paging.specs.TrapCode.{FMEM, page_fault}
+use Rattle.paging.specs.declared.TrapCode.{TrapCode}
+use Rattle.paging.specs.declared.TrapCode.TheVariants.{Fmem}
+use Rattle.paging.specs.TrapCode.{page_fault}
 use Rattle.paging.specs.Walk.{present, user_ok, write_ok, dir_at, tab_at}
 use Rattle.paging.specs.Translate.{Request, page_of}
 
@@ -54,15 +55,15 @@ first_failing [] = none
 first_failing (c ∷ cs) = if c.passes then first_failing cs else some c.cause
 
 -- the code that comes with a cause
-unfoldable pub fault_code : Access → Cause → ℕ
+unfoldable pub fault_code : Access → Cause → TrapCode
 unfolding page_fault
-fault_code kind AddressBeyondMemory = FMEM
+fault_code kind AddressBeyondMemory = Fmem
 fault_code kind DirectoryAbsent = page_fault kind
-fault_code kind DirectoryBeyondMemory = FMEM
+fault_code kind DirectoryBeyondMemory = Fmem
 fault_code kind TableAbsent = page_fault kind
 fault_code kind NoUserRight = page_fault kind
 fault_code kind NoWriteRight = page_fault kind
-fault_code kind FrameBeyondMemory = FMEM
+fault_code kind FrameBeyondMemory = Fmem
 
 -- a request is denied with the cause x: by its code, and the address asked
 abbrev pub fault_by : Request → Cause → Fault
@@ -75,5 +76,5 @@ fault_of q (some x) = some (fault_by q x)
 
 -- the fault of an answer, or none
 abbrev pub fault_in : Answer → Option Fault
-fault_in (At x) = none
-fault_in (Denied f) = some f
+fault_in (Ok x) = none
+fault_in (Err f) = some f

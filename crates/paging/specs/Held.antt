@@ -1,5 +1,5 @@
 -- Document 01, "The table reader": what is held (document 01's term), and demand 3's kind of store, both from the events.
-use Rattle.std.specs.Prelude.{ℕ, ◌+◌, Bool, true, false, ◌&&◌, ◌||◌, List, [], ◌∷◌, ltb}
+use Rattle.std.specs.Prelude.{ℕ, ◌+◌, Bool, false, ◌&&◌, ◌||◌, List, [], ◌∷◌, ltb}
 use Rattle.paging.specs.Event.{Event, walked, kept, emptied, marked, stored, delivered, Words}
 use Rattle.paging.specs.Buffer.{place, words_page}
 

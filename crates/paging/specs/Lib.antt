@@ -1,3 +1,4 @@
+pub mod Answer
 pub mod TrapCode
 pub mod Event
 pub mod Walk

@@ -1,5 +1,5 @@
 -- Document 01, "Addresses" and "The table reader", and document 02, item 4: translation, in the machine with the page buffer and in the table reader.
-use Rattle.std.specs.Prelude.{ℕ, ◌+◌, ◌*◌, ◌/◌, ◌%◌, Bool, true, false, List, [], ◌∷◌, ◌++◌, length, ltb, if◌then◌else◌}
+use Rattle.std.specs.Prelude.{ℕ, ◌+◌, ◌*◌, ◌/◌, ◌%◌, Bool, true, false, List, [], ◌∷◌, ◌++◌, length, ltb, if◌then◌else◌, Ok, Err}
 use Rattle.std.proofs.Math.Option.{Option, none, some}
 use Rattle.word.specs.Word.{cut}
 use Rattle.paging.specs.declared.Access.{Access}
@@ -7,9 +7,9 @@ use Rattle.paging.specs.declared.Cause.{Cause}
 use Rattle.paging.specs.declared.Cause.TheVariants.{AddressBeyondMemory}
 use Rattle.paging.specs.declared.Entry.{Entry}
 use Rattle.paging.specs.declared.Space.{Space}
-use Rattle.paging.specs.declared.Answer.{Answer}
-use Rattle.paging.specs.declared.Answer.TheVariants.{At, Denied}
-use Rattle.paging.specs.TrapCode.{FMEM}
+use Rattle.paging.specs.declared.TrapCode.{TrapCode}
+use Rattle.paging.specs.declared.TrapCode.TheVariants.{Fmem}
+use Rattle.paging.specs.Answer.{Answer}
 use Rattle.paging.specs.Event.{Event, emptied}
 use Rattle.paging.specs.Walk.{Found, fault, found, Walked, walk}
 use Rattle.paging.specs.Buffer.{hit, after_walk, walk_events, buffer_ok}
@@ -41,20 +41,20 @@ pub record Translator (B : Type 0) : Type 0 where
 -- ---- answers
 
 -- faults "set vadr to the address asked, before low bits drop"; "translation should name its cause with every fault"
-abbrev pub denied : ℕ → Cause → Request → Answer
-denied code cause q = Denied (record { code = code; cause = cause; address = q.addr })
+abbrev pub denied : TrapCode → Cause → Request → Answer
+denied code cause q = Err (record { code = code; cause = cause; address = q.addr })
 
 -- "Accesses drop low address bits to the natural size": the address in a frame
 abbrev pub in_frame : ℕ → Request → Answer
-in_frame f q = At (f * 4096 + cut q.size q.addr % 4096)
+in_frame f q = Ok (f * 4096 + cut q.size q.addr % 4096)
 
 -- the page of an address: its top twenty bits
 abbrev pub page_of : Request → ℕ
 page_of q = q.addr / 4096 % 1048576
 
--- "Paging off: the address itself, FMEM if not below M"
+-- "Paging off: the address itself, Fmem if not below M"
 unfoldable pub direct : Request → List ℕ → Answer
-direct q m = if ltb q.addr (length m) then At (cut q.size q.addr) else denied FMEM AddressBeyondMemory q
+direct q m = if ltb q.addr (length m) then Ok (cut q.size q.addr) else denied Fmem AddressBeyondMemory q
 
 unfoldable pub answer_of : Request → Found → Answer
 answer_of q (fault code cause) = denied code cause q

@@ -1,54 +1,29 @@
--- Document 01, "Traps": the trap codes, in the source's order. 16 is added from user mode.
+-- Document 01, "Traps": the trap codes' numbers, in the source's order. 16 is added from user mode.
 use Rattle.std.specs.Prelude.{ℕ}
 use Rattle.paging.specs.declared.Access.{Access}
 use Rattle.paging.specs.declared.Access.TheVariants.{Fetch, Read, Write}
+use Rattle.paging.specs.declared.TrapCode.{TrapCode}
+use Rattle.paging.specs.declared.TrapCode.TheVariants.{Fmem, Ftimer, Fkeybd, Fpriv, Finst, Fsys, Farith, Fipage, Fwpage, Frpage}
 
--- bad physical address
-abbrev pub FMEM : ℕ
-FMEM = 0
-
--- timer interrupt
-abbrev pub FTIMER : ℕ
-FTIMER = 1
-
--- keyboard interrupt
-abbrev pub FKEYBD : ℕ
-FKEYBD = 2
-
--- privileged instruction
-abbrev pub FPRIV : ℕ
-FPRIV = 3
-
--- illegal instruction
-abbrev pub FINST : ℕ
-FINST = 4
-
--- software trap
-abbrev pub FSYS : ℕ
-FSYS = 5
-
--- arithmetic trap
-abbrev pub FARITH : ℕ
-FARITH = 6
-
--- page fault on opcode fetch
-abbrev pub FIPAGE : ℕ
-FIPAGE = 7
-
--- page fault on write
-abbrev pub FWPAGE : ℕ
-FWPAGE = 8
-
--- page fault on read
-abbrev pub FRPAGE : ℕ
-FRPAGE = 9
+-- the number of a code
+abbrev pub code_number : TrapCode → ℕ
+code_number Fmem = 0
+code_number Ftimer = 1
+code_number Fkeybd = 2
+code_number Fpriv = 3
+code_number Finst = 4
+code_number Fsys = 5
+code_number Farith = 6
+code_number Fipage = 7
+code_number Fwpage = 8
+code_number Frpage = 9
 
 -- user mode exception: the mark added to a code
 abbrev pub USER : ℕ
 USER = 16
 
 -- the page fault of an access
-unfoldable pub page_fault : Access → ℕ
-page_fault Fetch = FIPAGE
-page_fault Read = FRPAGE
-page_fault Write = FWPAGE
+unfoldable pub page_fault : Access → TrapCode
+page_fault Fetch = Fipage
+page_fault Read = Frpage
+page_fault Write = Fwpage

@@ -6,7 +6,9 @@ use Rattle.paging.specs.declared.Access.{Access}
 use Rattle.paging.specs.declared.Access.TheVariants.{Fetch, Read, Write}
 use Rattle.paging.specs.declared.Cause.{Cause}
 use Rattle.paging.specs.declared.Cause.TheVariants.{DirectoryAbsent, DirectoryBeyondMemory, TableAbsent, NoUserRight, NoWriteRight, FrameBeyondMemory}
-use Rattle.paging.specs.TrapCode.{FMEM, page_fault}
+use Rattle.paging.specs.declared.TrapCode.{TrapCode}
+use Rattle.paging.specs.declared.TrapCode.TheVariants.{Fmem}
+use Rattle.paging.specs.TrapCode.{page_fault}
 use Rattle.paging.specs.Event.{Event, walked, marked}
 
 unfoldable pub is_write : Access → Bool
@@ -88,7 +90,7 @@ refused_by dw tw user = if present tw then (if user_ok dw tw user then NoWriteRi
 
 -- what a walk finds: a fault's code and cause; or the frame, the user and the write right, and the addresses of the two words read
 pub data Found : Type 0 where
-  fault : (code : ℕ) (cause : Cause) → Found
+  fault : (code : TrapCode) (cause : Cause) → Found
   found : (frame : ℕ) (user write : Bool) (dir tab : ℕ) → Found
 
 pub record Walked : Type 0 where
@@ -98,7 +100,7 @@ pub record Walked : Type 0 where
 
 -- "If its frame is not below M, FMEM. Then an entry is kept": write right "needs W in both words and D in the table word"
 unfoldable pub walk_frame : Bool → List Event → List ℕ → ℕ → ℕ → ℕ → ℕ → Walked
-walk_frame false es m dw tw da ta = record { mem = m; found = fault FMEM FrameBeyondMemory; events = es }
+walk_frame false es m dw tw da ta = record { mem = m; found = fault Fmem FrameBeyondMemory; events = es }
 walk_frame true es m dw tw da ta = record {
   mem = m;
   found = found (tw / 4096) (for_user dw && for_user tw) (writable dw && writable tw && dirty (load_n 4 m ta)) da ta;
@@ -114,7 +116,7 @@ walk_table true es m dw tw da ta kind user = walk_frame (ltb (cut 4096 tw) (leng
 -- "if its frame address is not below M, FMEM"
 unfoldable pub walk_below : Bool → List Event → List ℕ → ℕ → ℕ → ℕ → Access → Bool → Walked
 unfolding walk_table
-walk_below false es m dw da page kind user = record { mem = m; found = fault FMEM DirectoryBeyondMemory; events = es }
+walk_below false es m dw da page kind user = record { mem = m; found = fault Fmem DirectoryBeyondMemory; events = es }
 walk_below true es m dw da page kind user =
     walk_table (allows dw (load_n 4 m (tab_at dw page)) kind user) es m dw (load_n 4 m (tab_at dw page)) da (tab_at dw page) kind user
 

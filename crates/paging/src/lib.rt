@@ -13,14 +13,11 @@ pub enum Access {
 }
 
 // Whether an access writes.
+#[tactic(auto, unfolding(crate::specs::Walk::is_write))]
 pub fn writes(kind: Access) -> bool
     ensures { result ≡ is_write kind }
 {
-    match kind {
-        Access::Fetch => false,
-        Access::Read => false,
-        Access::Write => true,
-    }
+    matches!(kind, Access::Write)
 }
 
 // An entry of the page buffer.
@@ -53,53 +50,39 @@ pub enum Cause {
     FrameBeyondMemory,
 }
 
-// A fault of an access: its trap code, its cause, and the address asked. Trap codes take sixteen bits and stand first: a fault is eight bytes
+// Document 01, "Traps": the trap codes, with the source's numbers.
+#[derive(Clone, Copy)]
+pub enum TrapCode {
+    // Bad physical address.
+    Fmem = 0,
+    // Timer interrupt.
+    Ftimer = 1,
+    // Keyboard interrupt.
+    Fkeybd = 2,
+    // Privileged instruction.
+    Fpriv = 3,
+    // Illegal instruction.
+    Finst = 4,
+    // Software trap.
+    Fsys = 5,
+    // Arithmetic trap.
+    Farith = 6,
+    // Page fault on opcode fetch.
+    Fipage = 7,
+    // Page fault on write.
+    Fwpage = 8,
+    // Page fault on read.
+    Frpage = 9,
+}
+
+// A fault of an access: its trap code, its cause, and the address asked. Code and cause take a byte each and stand first: a fault is eight bytes
 // then, and instructions' ends stay in machine registers.
 #[derive(Clone, Copy)]
 pub struct Fault {
-    pub code: u16,
+    pub code: TrapCode,
     pub cause: Cause,
     pub address: u32,
 }
-
-// What translation answers: a physical address, or a fault.
-#[derive(Clone, Copy)]
-pub enum Answer {
-    At(usize),
-    Denied(Fault),
-}
-
-// ---- document 01, "Traps": the trap codes, in the source's order
-
-// Bad physical address.
-pub const FMEM: u16 = 0;
-
-// Timer interrupt.
-pub const FTIMER: u16 = 1;
-
-// Keyboard interrupt.
-pub const FKEYBD: u16 = 2;
-
-// Privileged instruction.
-pub const FPRIV: u16 = 3;
-
-// Illegal instruction.
-pub const FINST: u16 = 4;
-
-// Software trap.
-pub const FSYS: u16 = 5;
-
-// Arithmetic trap.
-pub const FARITH: u16 = 6;
-
-// Page fault on opcode fetch.
-pub const FIPAGE: u16 = 7;
-
-// Page fault on write.
-pub const FWPAGE: u16 = 8;
-
-// Page fault on read.
-pub const FRPAGE: u16 = 9;
 
 // User mode exception: the mark added to a code.
 pub const USER: u32 = 16;

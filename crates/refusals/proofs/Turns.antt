@@ -124,11 +124,15 @@ module _ (n : ℕ) (es : List Entry) (z : length es ≡ 64) (few : n ≤ 64) whe
     entry_fails e = fails (rw (last, ← q, e))
 
     module _ (ok : o ≡ true) where
-      pub page_twice : has entry_page entry.page (drop k (take n es)) ≡ true → false ≡ buffer_ok size (first_slots n es)
-      unfolding entries_ok
-      page_twice e = fails (rw (last, ← q, ok, e))
+      -- the slots after the entry's own are those from slot k on
+      after : (k - 1) + 1 ≡ k
+      after = omega (arith, some)
 
-      pub entry_passes : has entry_page entry.page (drop k (take n es)) ≡ false → Passed size (k - 1) (set s (entry.page % 256) true)
+      pub page_twice : has entry_page entry.page (drop ((k - 1) + 1) (take n es)) ≡ true → false ≡ buffer_ok size (first_slots n es)
+      unfolding entries_ok
+      page_twice e = fails (rw (last, ← q, ok, rw after at e))
+
+      entry_passes : has entry_page entry.page (drop k (take n es)) ≡ false → Passed size (k - 1) (set s (entry.page % 256) true)
       unfolding entries_ok all_seen
       entry_passes e =
           let l : entry.page % 256 < length s = omega (arith, p.console_size) in
@@ -141,3 +145,6 @@ module _ (n : ℕ) (es : List Entry) (z : length es ≡ 64) (few : n ≤ 64) whe
 
       pub entry_new : get_or s (entry.page % 256) false ≡ false → Passed size (k - 1) (set s (entry.page % 256) true)
       entry_new e = entry_passes (unseen s entry.page (drop k (take n es)) p.seen e)
+
+      pub entry_searched : has entry_page entry.page (drop ((k - 1) + 1) (take n es)) ≡ false → Passed size (k - 1) (set s (entry.page % 256) true)
+      entry_searched e = entry_passes (rw after at e)

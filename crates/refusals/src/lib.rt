@@ -8,7 +8,7 @@ ghost use Rattle.refusals.specs.View.{entries_of};
 ghost use Rattle.refusals.specs.Refusal.{refusal_of};
 
 use paging::Entry;
-use rules::{Cpu, Machine, RunAnswer};
+use rules::{Cpu, Machine, RunRefusal};
 
 // Whether the registers pass refusal 2, in memory of `size` bytes.
 pub fn registers_ok(size: usize, c: Cpu) -> bool
@@ -36,13 +36,10 @@ fn has_page(slots: [Entry; 64], n: usize, from: usize, page: u32) -> bool
     requires { n ≤ 64 }
     ensures { result ≡ has entry_page page (drop from (take n slots)) }
 {
-    let mut i = from;
-    while i < n {
-        let e = slots[i];
-        if e.page == page {
+    for i in from..n {
+        if slots[i].page == page {
             return true;
         }
-        i += 1;
     }
     false
 }
@@ -52,29 +49,20 @@ fn has_page(slots: [Entry; 64], n: usize, from: usize, page: u32) -> bool
 pub fn slots_ok(m: Machine, size: usize) -> bool
     ensures { result ≡ buffer_ok size (entries_of m) }
 {
-    let n = m.held;
-    if n > 64 {
+    if m.held > 64 {
         return false;
     }
     let mut seen = [false; 256];
-    let mut left = n;
-    while 0 < left {
-        let i = left - 1;
+    for i in (0..m.held).rev() {
         let e = m.entries[i];
-        let ok = entry_ok(e, size);
-        if !ok {
+        if !entry_ok(e, size) {
             return false;
         }
         let k = (e.page % 256) as usize;
-        if seen[k] {
-            let slots = m.entries;
-            let twice = has_page(slots, n, left, e.page);
-            if twice {
-                return false;
-            }
+        if seen[k] && has_page(m.entries, m.held, i + 1, e.page) {
+            return false;
         }
         seen[k] = true;
-        left = i;
     }
     true
 }
@@ -87,26 +75,26 @@ pub fn refusal(
     rising: bool,
     keys: usize,
     budget: u64,
-) -> RunAnswer
+) -> Result<(), RunRefusal>
     ensures { result ≡ refusal_of m size capacity rising keys budget }
 {
     if !memory::size_ok(size) {
-        return RunAnswer::BadSize;
+        return Err(RunRefusal::BadSize);
     }
     if !registers_ok(size, m.cpu) {
-        return RunAnswer::BadRegisters;
+        return Err(RunRefusal::BadRegisters);
     }
     if !slots_ok(m, size) {
-        return RunAnswer::BadBuffer;
+        return Err(RunRefusal::BadBuffer);
     }
     if !(rising & (m.cpu.clock.taken <= keys)) {
-        return RunAnswer::BadKeys;
+        return Err(RunRefusal::BadKeys);
     }
     if !(m.cpu.written <= capacity) {
-        return RunAnswer::BadConsole;
+        return Err(RunRefusal::BadConsole);
     }
     if !(budget <= 1000000) {
-        return RunAnswer::BadBudget;
+        return Err(RunRefusal::BadBudget);
     }
-    RunAnswer::Accepted
+    Ok(())
 }

@@ -1,14 +1,15 @@
 -- Document 02, item 4, for any translator, so for both machines: a denied fetch or operand access sets vadr and the cause, wherever its trap ends (`fault_sets`); every
 -- other trap keeps both, and so does a refused slot of any frame (`trap_keeps`, `delivery_keeps`); in a step both are kept or both are set (`fault_after`).
+use Rattle.std.proofs.Common.{Option}
 use Prim.Native.Nat.{ℕ}
 use mathlib.Core.List.{List, []}
 use mathlib.Core.Path.{◌≡◌, refl, ◌∙◌}
 use lib.ListN.{length}
 use Rattle.paging.specs.declared.Fault.{Fault}
+use Rattle.paging.specs.declared.TrapCode.{TrapCode}
 use Rattle.paging.specs.Translate.{Translator}
 use Rattle.rules.specs.declared.Cpu.{Cpu}
 use Rattle.rules.specs.declared.Key.{Key}
-use Rattle.rules.specs.declared.Next.{Next}
 use Rattle.rules.specs.declared.Pending.{Pending}
 use Rattle.rules.specs.Record.{with_fault}
 use Rattle.rules.specs.Tree.{Reply, got, denied, Tree, Ended, interpret}
@@ -26,17 +27,17 @@ keeps v e = record { vadr = v; cause = e }
 -- ---- a trap
 
 -- a frame, stored or not: "a refused slot doesn't set vadr"
-frame_keeps : (c : Cpu) (left : Pending) (code pc : ℕ) (r : Reply) → Leaves (λ f. KeepsFault c f.cpu) (framed c left code pc r)
+frame_keeps : (c : Cpu) (left : Pending) (code : TrapCode) (pc : ℕ) (r : Reply) → Leaves (λ f. KeepsFault c f.cpu) (framed c left code pc r)
 frame_keeps c left code pc (got v) = at_leaf (keeps refl refl)
 frame_keeps c left code pc (denied f) = at_leaf (keeps refl refl)
 
 -- of interrupts too
-pub delivery_keeps : (c : Cpu) (left : Pending) (code pc : ℕ) → Leaves (λ f. KeepsFault c f.cpu) (deliver_tree c left code pc)
+pub delivery_keeps : (c : Cpu) (left : Pending) (code : TrapCode) (pc : ℕ) → Leaves (λ f. KeepsFault c f.cpu) (deliver_tree c left code pc)
 unfolding deliver_tree
 delivery_keeps c left code pc = at_ask (frame_keeps c left code pc)
 
 -- FPRIV, FINST, FSYS and FARITH, delivered or not
-pub trap_keeps : (c : Cpu) (code pc : ℕ) → Leaves (λ f. KeepsFault c f.cpu) (trap_tree c code pc)
+pub trap_keeps : (c : Cpu) (code : TrapCode) (pc : ℕ) → Leaves (λ f. KeepsFault c f.cpu) (trap_tree c code pc)
 unfolding trap_tree
 trap_keeps c code pc = leaves_if c.system.iena (delivery_keeps c c.clock.pending code pc) (at_leaf (keeps refl refl))
 
@@ -86,7 +87,7 @@ module _ (c : Cpu) where
       (kept (keeps refl refl)) (λ i e. leaves_after (kept (keeps refl refl)) (delivery_keeps (awake c) _ _ _)) (leaves_all _)
 
 -- rules 1 to 3 keep both
-from_clocked : {x : Cpu} (next : Next) (c : Cpu) → FaultAfter (ticked next c) x → FaultAfter c x
+from_clocked : {x : Cpu} (next : Option Key) (c : Cpu) → FaultAfter (ticked next c) x → FaultAfter c x
 unfolding ticked
 from_clocked next c (kept k) = kept (keeps k.vadr k.cause)
 from_clocked next c (set f h) = set f h

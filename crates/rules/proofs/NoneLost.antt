@@ -1,6 +1,6 @@
 -- Document 02, item 1: an interrupt that is pending where a run starts is delivered in the run, or pending where it ends. So none is lost over any list of runs,
 -- and one whose event happens in a step is pending after it, or delivered in it (`event_sets`, `pending_after`).
-use Rattle.std.proofs.Common.{if◌then◌else◌}
+use Rattle.std.proofs.Common.{if◌then◌else◌, Option}
 use Prim.Native.Nat.{ℕ, zero, suc}
 use mathlib.Core.Bool.{Bool, true, false, ◌||◌, or-true}
 use mathlib.Core.List.{List, [], ◌∷◌}
@@ -9,7 +9,6 @@ use Rattle.paging.specs.Translate.{Translator}
 use Rattle.rules.specs.declared.Cpu.{Cpu}
 use Rattle.rules.specs.declared.Interrupt.{Interrupt}
 use Rattle.rules.specs.declared.Key.{Key}
-use Rattle.rules.specs.declared.Next.{Next}
 use Rattle.rules.specs.Record.{is_running}
 use Rattle.rules.specs.Clock.{next_of, ticked}
 use Rattle.rules.specs.Step.{State, Stepped, step}
@@ -18,7 +17,7 @@ use Rattle.rules.specs.Pending.{happens, pending_of, PendingAfter, kept, clear, 
 use Rattle.rules.proofs.PendingLaws.{event_sets, pending_after}
 
 -- rules 1 to 3 keep what is pending
-ticked_keeps : (i : Interrupt) (next : Next) (c : Cpu) → pending_of i c ≡ true → pending_of i (ticked next c) ≡ true
+ticked_keeps : (i : Interrupt) (next : Option Key) (c : Cpu) → pending_of i c ≡ true → pending_of i (ticked next c) ≡ true
 ticked_keeps i next c p = event_sets i next c ∙ ap (λ (b : Bool). happens i next c || b) p ∙ or-true (happens i next c)
 
 module _ {B : Type 0} (tr : Translator B) (ks : List Key) (i : Interrupt) where
@@ -49,7 +48,7 @@ module _ {B : Type 0} (tr : Translator B) (ks : List Key) (i : Interrupt) where
       ts : List (Stepped B)
       ts = steps_of tr ks n t.state
 
-      next : Next
+      next : Option Key
       next = next_of ks s.cpu.clock.taken
 
       go : (b : Bool) → (pending_of i t.state.cpu ≡ true → Kept t.state ts) → Kept s (if b then t ∷ ts else [])

@@ -1,21 +1,19 @@
 -- Document 02, item 1, for any translator, so for both machines: an event sets its mark (`event_sets`); nothing but its own delivery clears a mark (`pending_after`);
 -- in a step with iena = 1 the first marked interrupt, key before timer, is delivered, or the machine stops with 3 (`key_delivered`, `timer_delivered`).
-use Rattle.std.proofs.Common.{if◌then◌else◌}
+use Rattle.std.proofs.Common.{if◌then◌else◌, Option, Some, None}
 use Prim.Native.Nat.{ℕ, ◌+◌}
 use mathlib.Core.Bool.{Bool, true, false, ◌||◌}
 use mathlib.Core.List.{List, [], ◌++◌}
 use mathlib.Core.Path.{◌≡◌, refl, sym, ap, ◌∙◌, subst}
 use lib.Dec.{eqb}
 use lib.ListN.{length}
+use Rattle.paging.specs.declared.TrapCode.{TrapCode}
 use Rattle.paging.specs.Translate.{Translator}
 use Rattle.rules.specs.declared.Clock.{Clock}
 use Rattle.rules.specs.declared.Cpu.{Cpu}
-use Rattle.rules.specs.declared.Due.{Due}
-use Rattle.rules.specs.declared.Due.TheVariants.{Nothing, Now}
 use Rattle.rules.specs.declared.Interrupt.{Interrupt}
 use Rattle.rules.specs.declared.Interrupt.TheVariants.{Keyboard, Timer}
 use Rattle.rules.specs.declared.Key.{Key}
-use Rattle.rules.specs.declared.Next.{Next}
 use Rattle.rules.specs.declared.Pending.{Pending}
 use Rattle.rules.specs.declared.Stop.TheVariants.{NoFrame}
 use Rattle.rules.specs.Record.{with_timer, with_pending, with_timer_pending}
@@ -43,40 +41,45 @@ timed_pending t = go (timer_fires t) (eqb t.timeout 0)
     go false false = (refl, refl)
 
 -- rule 2: the key's mark is set where a key comes
-keyed_key : (next : Next) (comes : Bool) (t : Clock) → (keyed next comes t).pending.key ≡ comes || t.pending.key
-keyed_key next true t = refl
-keyed_key next false t = refl
+keyed_key : (next : Option Key) (c : Cpu) (t : Clock) → (keyed next (key_comes next c) t).pending.key ≡ key_comes next c || t.pending.key
+keyed_key None c t = refl
+keyed_key (Some k) c t = go (key_comes (Some k) c)
+  where
+    go : (comes : Bool) → (keyed (Some k) comes t).pending.key ≡ comes || t.pending.key
+    go true = refl
+    go false = refl
 
 -- and the timer and its mark are left
-keyed_timer : (next : Next) (comes : Bool) (t : Clock) → timer_fires (keyed next comes t) || (keyed next comes t).pending.timer ≡ timer_fires t || t.pending.timer
-keyed_timer next true t = refl
-keyed_timer next false t = refl
+keyed_timer : (next : Option Key) (comes : Bool) (t : Clock) → timer_fires (keyed next comes t) || (keyed next comes t).pending.timer ≡ timer_fires t || t.pending.timer
+keyed_timer None comes t = refl
+keyed_timer (Some k) true t = refl
+keyed_timer (Some k) false t = refl
 
 -- after rules 1 to 3 a mark is set where its event happens, whatever iena is and whatever else happens; and else is as it was
-pub event_sets : (i : Interrupt) (next : Next) (c : Cpu) → pending_of i (ticked next c) ≡ happens i next c || pending_of i c
+pub event_sets : (i : Interrupt) (next : Option Key) (c : Cpu) → pending_of i (ticked next c) ≡ happens i next c || pending_of i c
 unfolding ticked
 event_sets Keyboard next c =
     let t = keyed next (key_comes next c) c.clock in
-    ap (is_pending Keyboard) (timed_pending t).0 ∙ keyed_key next (key_comes next c) c.clock
+    ap (is_pending Keyboard) (timed_pending t).0 ∙ keyed_key next c c.clock
 event_sets Timer next c =
     let t = keyed next (key_comes next c) c.clock in
     ap (is_pending Timer) (timed_pending t).0 ∙ keyed_timer next (key_comes next c) c.clock
 
 -- ---- "in a step with iena = 1 the first marked one, key before timer, is due"
 
-pub masked_due : (c : Cpu) → c.system.iena ≡ false → due_of c ≡ Nothing
+pub masked_due : (c : Cpu) → c.system.iena ≡ false → due_of c ≡ None
 unfolding due_of
 masked_due c e = rw e
 
-pub key_due : (c : Cpu) → c.system.iena ≡ true → pending_of Keyboard c ≡ true → due_of c ≡ Now Keyboard
+pub key_due : (c : Cpu) → c.system.iena ≡ true → pending_of Keyboard c ≡ true → due_of c ≡ Some Keyboard
 unfolding due_of
 key_due c e k = rw (e, k)
 
-pub timer_due : (c : Cpu) → c.system.iena ≡ true → pending_of Keyboard c ≡ false → pending_of Timer c ≡ true → due_of c ≡ Now Timer
+pub timer_due : (c : Cpu) → c.system.iena ≡ true → pending_of Keyboard c ≡ false → pending_of Timer c ≡ true → due_of c ≡ Some Timer
 unfolding due_of
 timer_due c e k t = rw (e, k, t)
 
-pub unmarked_due : (c : Cpu) → c.system.iena ≡ true → pending_of Keyboard c ≡ false → pending_of Timer c ≡ false → due_of c ≡ Nothing
+pub unmarked_due : (c : Cpu) → c.system.iena ≡ true → pending_of Keyboard c ≡ false → pending_of Timer c ≡ false → due_of c ≡ None
 unfolding due_of
 unmarked_due c e k t = rw (e, k, t)
 
@@ -85,11 +88,11 @@ unmarked_due c e k t = rw (e, k, t)
 -- both are kept, or an interrupt was due, is delivered, and its mark alone is cleared
 data PendingEnd (c : Cpu) (f : Final) : Type 0 where
   both_kept : f.cpu.clock.pending ≡ c.clock.pending → PendingEnd c f
-  one_cleared : (i : Interrupt) → due_of c ≡ Now i → f.effect ≡ deliver (interrupt_code i) → f.cpu.clock.pending ≡ cleared i c.clock.pending → PendingEnd c f
+  one_cleared : (i : Interrupt) → due_of c ≡ Some i → f.effect ≡ deliver (interrupt_code i) → f.cpu.clock.pending ≡ cleared i c.clock.pending → PendingEnd c f
 
 module _ (c : Cpu) where
   -- a fault's or TRAP's frame, stored or not
-  frame_keeps : (x : Cpu) (code pc : ℕ) → x.clock.pending ≡ c.clock.pending → (r : Reply) → Leaves (PendingEnd c) (framed x x.clock.pending code pc r)
+  frame_keeps : (x : Cpu) (code : TrapCode) (pc : ℕ) → x.clock.pending ≡ c.clock.pending → (r : Reply) → Leaves (PendingEnd c) (framed x x.clock.pending code pc r)
   frame_keeps x code pc g (got v) = at_leaf (both_kept g)
   frame_keeps x code pc g (denied f) = at_leaf (both_kept g)
 
@@ -111,7 +114,7 @@ module _ (c : Cpu) where
   }
 
   -- an interrupt's frame, stored or not
-  interrupt_pending : (i : Interrupt) (pc : ℕ) → due_of c ≡ Now i → (r : Reply)
+  interrupt_pending : (i : Interrupt) (pc : ℕ) → due_of c ≡ Some i → (r : Reply)
       → Leaves (PendingEnd c) (framed (awake c) (cleared i c.clock.pending) (interrupt_code i) pc r)
   interrupt_pending i pc e (got v) = at_leaf (one_cleared i e refl refl)
   interrupt_pending i pc e (denied f) = at_leaf (both_kept refl)
@@ -131,9 +134,9 @@ module _ (c : Cpu) where
     due_frame pc (got v) = at_leaf (stored refl refl)
     due_frame pc (denied f) = at_leaf (refused refl refl)
 
-    due_end : (size console_size : ℕ) → due_of c ≡ Now i → Leaves DueEnd (due_tree (due_of c) size console_size c)
+    due_end : (size console_size : ℕ) → due_of c ≡ Some i → Leaves DueEnd (due_tree (due_of c) size console_size c)
     unfolding due_tree deliver_tree
-    due_end size console_size e = subst (λ (d : Due). Leaves DueEnd (due_tree d size console_size c)) (sym e) (at_ask (due_frame _))
+    due_end size console_size e = subst (λ (d : Option Interrupt). Leaves DueEnd (due_tree d size console_size c)) (sym e) (at_ask (due_frame _))
 
 -- a delivery clears its own mark
 cleared_own : (i : Interrupt) (p : Pending) → is_pending i (cleared i p) ≡ false
@@ -180,7 +183,7 @@ module _ {B : Type 0} (tr : Translator B) (ks : List Key) (s : State B) where
   unfolding step
   pending_after i = pending_ends tr s.cpu clocked s.console end i (at_end (every_pending clocked (length s.mem) (length s.console)))
 
-  due_after : (i : Interrupt) → due_of clocked ≡ Now i → pending_of i clocked ≡ true → DueAfter i (step tr ks s)
+  due_after : (i : Interrupt) → due_of clocked ≡ Some i → pending_of i clocked ≡ true → DueAfter i (step tr ks s)
   unfolding step
   due_after i d m = due_ends tr s.cpu clocked s.console end i m (at_end (due_end clocked i (length s.mem) (length s.console) d))
 

@@ -1,10 +1,10 @@
 -- Document 01, "The record and the loaded program": the record's numbers with keys taken and console bytes written are the whole record.
+use Rattle.std.proofs.Common.{Option, Some, None}
 use mathlib.Core.Path.{◌≡◌, refl, sym, ◌∙◌}
 use mathlib.Core.Bool.{Bool, true, false}
+use Rattle.paging.specs.declared.Cause.{Cause}
 use Rattle.paging.specs.declared.Cause.TheVariants.{AddressBeyondMemory, DirectoryAbsent, DirectoryBeyondMemory, TableAbsent, NoUserRight, NoWriteRight, FrameBeyondMemory}
 use Rattle.rules.specs.declared.Cpu.{Cpu}
-use Rattle.rules.specs.declared.LastCause.{LastCause}
-use Rattle.rules.specs.declared.LastCause.TheVariants.{None, Of}
 use Rattle.rules.specs.declared.Stop.{Stop}
 use Rattle.rules.specs.declared.Stop.TheVariants.{Running, Halted, Masked, NoFrame}
 use Rattle.rules.specs.Arithmetic.{flag}
@@ -22,16 +22,16 @@ stop_read Halted = refl
 stop_read Masked = refl
 stop_read NoFrame = refl
 
-cause_read : (x : LastCause) → cause_of (cause_number x) ≡ x
+cause_read : (x : Option Cause) → cause_of (cause_number x) ≡ x
 unfolding cause_of
 cause_read None = refl
-cause_read (Of AddressBeyondMemory) = refl
-cause_read (Of DirectoryAbsent) = refl
-cause_read (Of DirectoryBeyondMemory) = refl
-cause_read (Of TableAbsent) = refl
-cause_read (Of NoUserRight) = refl
-cause_read (Of NoWriteRight) = refl
-cause_read (Of FrameBeyondMemory) = refl
+cause_read (Some AddressBeyondMemory) = refl
+cause_read (Some DirectoryAbsent) = refl
+cause_read (Some DirectoryBeyondMemory) = refl
+cause_read (Some TableAbsent) = refl
+cause_read (Some NoUserRight) = refl
+cause_read (Some NoWriteRight) = refl
+cause_read (Some FrameBeyondMemory) = refl
 
 -- the numbers of a record give it back
 pub record_read : (c : Cpu) → record_of (numbers_of c) c.clock.taken c.written ≡ c

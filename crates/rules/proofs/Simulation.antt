@@ -1,11 +1,11 @@
 -- Document 01, "The table reader": one tree of accesses in both machines. From a coherent buffer they come to the same leaf, memory and granted
 -- writes. One induction over trees: no instruction has a case of its own.
+use Rattle.std.proofs.Common.{Ok, Err}
 use Prim.Native.Nat.{ℕ}
 use mathlib.Core.Path.{◌≡◌, refl, subst}
 use mathlib.Core.Bool.{Bool, false}
 use mathlib.Core.List.{List, ◌++◌}
-use Rattle.paging.specs.declared.Answer.{Answer}
-use Rattle.paging.specs.declared.Answer.TheVariants.{At, Denied}
+use Rattle.paging.specs.Answer.{Answer}
 use Rattle.paging.specs.declared.Entry.{Entry}
 use Rattle.paging.specs.declared.Space.{Space}
 use Rattle.paging.specs.Event.{Words}
@@ -35,8 +35,8 @@ module _ (s : Space) (m : List ℕ) (hs : List Words) where
   second_agrees {b} {b'} {t} {t'} p g h x y e = rw (← e) (go x)
     where
       go : (z : Answer) → RequestAgrees s m hs (second_slot buffered p b.events b' z) (second_slot reader p t.events t' z)
-      go (At q) = agrees_then g h refl
-      go (Denied f) = agrees_then g h refl
+      go (Ok q) = agrees_then g h refl
+      go (Err f) = agrees_then g h refl
 
   -- the first slot
   first_agrees : {b : Outcome (List Entry) Answer} {t : Outcome (Unit {0}) Answer} (va : ℕ) → RequestAgrees s m hs b t → (x y : Answer) → x ≡ y
@@ -45,10 +45,10 @@ module _ (s : Space) (m : List ℕ) (hs : List Words) where
   first_agrees {b} {t} va g x y e = rw (← e) (go x)
     where
       go : (z : Answer) → RequestAgrees s m hs (first_slot buffered s va b z) (first_slot reader s va t z)
-      go (At p) =
+      go (Ok p) =
           let h = next_agrees (slot va) g in
           second_agrees p g h _ _ h.answer
-      go (Denied f) = agrees_as g refl
+      go (Err f) = agrees_as g refl
 
   -- an ask of either kind
   pub ask_agrees : (user : Bool) (es : List Entry) → Sound s m es hs → (q : Ask)

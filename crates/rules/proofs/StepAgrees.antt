@@ -1,5 +1,6 @@
 -- Document 01, "The table reader": one step. From a coherent buffer both machines come to the same state; the buffer is coherent afterwards unless
 -- the step made a store of demand 3's kind.
+use Rattle.std.proofs.Common.{Option}
 use Prim.Native.Nat.{ℕ}
 use mathlib.Core.Path.{◌≡◌}
 use mathlib.Core.Bool.{false}
@@ -17,7 +18,6 @@ use Rattle.paging.proofs.EventLaws.{held_append, stores_append}
 use Rattle.paging.proofs.RequestAgrees.{Sound, emptied_coherent}
 use Rattle.rules.specs.declared.Cpu.{Cpu}
 use Rattle.rules.specs.declared.Key.{Key}
-use Rattle.rules.specs.declared.Next.{Next}
 use Rattle.rules.specs.Tree.{Grant, store_all, store_events, Ended}
 use Rattle.rules.specs.Trap.{Effect, none, set_space, deliver, print, Final}
 use Rattle.rules.specs.Clock.{next_of}
@@ -73,7 +73,7 @@ module _ (c : Cpu) (con : List ℕ) where
   }
 
 -- a step, with the next key
-step_by_agrees : (k : Next) (s : State (List Entry)) (hs : List Words) → Sound s.cpu.space s.mem s.buffer hs
+step_by_agrees : (k : Option Key) (s : State (List Entry)) (hs : List Words) → Sound s.cpu.space s.mem s.buffer hs
     → StepAgrees hs (step_by buffered k s) (step_by reader k (without_buffer s))
 unfolding step_by
 step_by_agrees k s hs o =

@@ -1,12 +1,14 @@
 -- Document 01, "Opcodes", PDIR and SPAG: a step leaves the page directory at a multiple of 4. Only these two set it.
+use Rattle.std.proofs.Common.{Option}
 use Prim.Native.Nat.{ℕ, ◌%◌}
 use mathlib.Core.Path.{◌≡◌}
 use native.Mathlib.Omega.{arith}
 use Rattle.word.specs.Word.{cut}
 use Rattle.paging.specs.declared.Space.{Space}
+use Rattle.rules.specs.declared.Key.{Key}
+use Rattle.paging.specs.declared.TrapCode.{TrapCode}
 use Rattle.rules.specs.declared.Cpu.{Cpu}
 use Rattle.rules.specs.declared.Interrupt.{Interrupt}
-use Rattle.rules.specs.declared.Next.{Next}
 use Rattle.rules.specs.declared.Pending.{Pending}
 use Rattle.rules.specs.Tree.{Reply, got, denied}
 use Rattle.rules.specs.Trap.{Final, framed, deliver_tree}
@@ -22,7 +24,7 @@ DirectoryAligned s f = (space_after s f.effect).pdir % 4 ≡ 0
 
 module _ (s : Space) (h : s.pdir % 4 ≡ 0) where
   -- a trap frame leaves the address space
-  frame_aligned : (c : Cpu) (left : Pending) (code pc : ℕ) (r : Reply) → Leaves (DirectoryAligned s) (framed c left code pc r)
+  frame_aligned : (c : Cpu) (left : Pending) (code : TrapCode) (pc : ℕ) (r : Reply) → Leaves (DirectoryAligned s) (framed c left code pc r)
   unfolding space_after
   frame_aligned c left code pc (got x) = at_leaf h
   frame_aligned c left code pc (denied f) = at_leaf h
@@ -56,7 +58,7 @@ module _ (s : Space) (h : s.pdir % 4 ≡ 0) where
   }
 
 -- a whole step
-pub step_aligned : (k : Next) (size console_size : ℕ) (c : Cpu) → c.space.pdir % 4 ≡ 0 → Leaves (DirectoryAligned c.space) (step_tree k size console_size c)
+pub step_aligned : (k : Option Key) (size console_size : ℕ) (c : Cpu) → c.space.pdir % 4 ≡ 0 → Leaves (DirectoryAligned c.space) (step_tree k size console_size c)
 unfolding step_tree ticked space_after
 step_aligned k size console_size c h =
     every_step (λ o. Unit {0}) (aligned c.space h size console_size) (λ c' r vs g o. h) (λ c' r v vs g o. h) (due_of (ticked k c)) (ticked k c) h

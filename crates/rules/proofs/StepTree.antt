@@ -1,6 +1,6 @@
 -- One induction over a step's tree, with the predicate open: T says something of a tree, G of a record. Given what holds of each shape of tree (`Shapes`), T holds
 -- of all that a step can come to from a record with G. A claim on every step answers the shapes, and no case for an instruction.
-use Rattle.std.proofs.Common.{if◌then◌else◌}
+use Rattle.std.proofs.Common.{if◌then◌else◌, Option, Some, None}
 use Prim.Native.Nat.{ℕ}
 use mathlib.Core.Path.{◌≡◌, refl}
 use mathlib.Core.Bool.{Bool, true, false}
@@ -12,10 +12,9 @@ use Rattle.decode.specs.declared.SysOp.TheVariants.{Plain, Rti, Bout, Pdir, Spag
 use Rattle.paging.specs.declared.Access.TheVariants.{Read}
 use Rattle.paging.specs.declared.Cause.TheVariants.{AddressBeyondMemory}
 use Rattle.paging.specs.declared.Fault.{Fault}
-use Rattle.paging.specs.TrapCode.{FINST, FMEM, FPRIV}
+use Rattle.paging.specs.declared.TrapCode.{TrapCode}
+use Rattle.paging.specs.declared.TrapCode.TheVariants.{Finst, Fmem, Fpriv}
 use Rattle.rules.specs.declared.Cpu.{Cpu}
-use Rattle.rules.specs.declared.Due.{Due}
-use Rattle.rules.specs.declared.Due.TheVariants.{Nothing, Now}
 use Rattle.rules.specs.declared.Interrupt.{Interrupt}
 use Rattle.rules.specs.declared.Regs.{Regs}
 use Rattle.rules.specs.declared.Floats.{Floats}
@@ -46,7 +45,7 @@ pub record Shapes (size console_size : ℕ) (T : Tree Final → Type 0) (G : Cpu
   pub directs : (c : Cpu) → G c → ltb c.regs.a size ≡ true → T (directed c)
   pub pages : (c : Cpu) → G c → T (spag_tree c)
   -- accesses: a fault's or TRAP's frame, stored or not; RTI's reads
-  pub delivers : (c : Cpu) (code pc : ℕ) → G c → T (deliver_tree c c.clock.pending code pc)
+  pub delivers : (c : Cpu) (code : TrapCode) (pc : ℕ) → G c → T (deliver_tree c c.clock.pending code pc)
   pub reads : {va : ℕ} {rest : Reply → Tree Final} → ((r : Reply) → T (rest r)) → T (ask (access Read 4 va) rest)
 
 -- a choice of two trees, whose test may tell something
@@ -58,7 +57,7 @@ choice T false l r = r
 
 module _ {size console_size : ℕ} {T : Tree Final → Type 0} {G : Cpu → Type 0} (shapes : Shapes size console_size T G) where
   -- a trap, or a stop with 2
-  pub every_trap : (c : Cpu) (code pc : ℕ) → G c → T (trap_tree c code pc)
+  pub every_trap : (c : Cpu) (code : TrapCode) (pc : ℕ) → G c → T (trap_tree c code pc)
   unfolding trap_tree
   every_trap c code pc g = choice T c.system.iena (λ e. shapes.delivers c code pc g) (shapes.masks c g)
 
@@ -79,14 +78,14 @@ module _ {size console_size : ℕ} {T : Tree Final → Type 0} {G : Cpu → Type
   every_privileged Rti old c o g = shapes.reads (or_fault_lem old o (λ code. shapes.reads (or_fault_lem old o (λ pc. shapes.returns old code pc o))))
   every_privileged Bout old c o g = choice T (ltb c.written console_size) (shapes.prints c g) (shapes.fills c g)
   every_privileged Pdir old c o g =
-      choice T (ltb c.regs.a size) (shapes.directs c g) (every_fault old (record { code = FMEM; cause = AddressBeyondMemory; address = c.regs.a }) (next_pc old) o)
+      choice T (ltb c.regs.a size) (shapes.directs c g) (every_fault old (record { code = Fmem; cause = AddressBeyondMemory; address = c.regs.a }) (next_pc old) o)
   every_privileged Spag old c o g = shapes.pages c g
 
   -- with their privilege
   pub every_system : (op : SysOp) (c : Cpu) → G c → T (system_tree size console_size op c)
   unfolding system_tree
   every_system op c g =
-      choice T c.system.user (λ e. every_trap c FPRIV (next_pc c) g) (every_privileged op c (with_regs (moved c.regs) c) g (shapes.on_moved c g))
+      choice T c.system.user (λ e. every_trap c Fpriv (next_pc c) g) (every_privileged op c (with_regs (moved c.regs) c) g (shapes.on_moved c g))
 
 -- ---- a whole step, where T claims P of every leaf, and O is known of how the instruction ends
 
@@ -102,11 +101,11 @@ module _ {size console_size : ℕ} {P : Final → Type 0} {G : Cpu → Type 0} (
   every_settle c g (refused f) o = every_fault shapes c f (next_pc c) g
   every_settle c g (system op) o = every_system shapes op c g
   every_settle c g (floated r v vs) o = at_leaf (floats c r v vs g o)
-  every_settle c g (undecoded w) o = every_trap shapes c FINST (next_pc c) g
+  every_settle c g (undecoded w) o = every_trap shapes c Finst (next_pc c) g
 
   -- an interrupt is due, or nothing; c is the record after rules 1 to 3
-  pub every_step : (due : Due) (c : Cpu) → G c → ((i : Interrupt) → due ≡ Now i → Leaves P (interrupt_tree i c)) → Leaves O (executed_tree c)
+  pub every_step : (due : Option Interrupt) (c : Cpu) → G c → ((i : Interrupt) → due ≡ Some i → Leaves P (interrupt_tree i c)) → Leaves O (executed_tree c)
       → Leaves P (due_tree due size console_size c)
   unfolding due_tree
-  every_step (Now i) c g delivers l = delivers i refl
-  every_step Nothing c g delivers l = leaves_if c.system.waiting (shapes.waits c g) (leaves_then (settle_tree size console_size c) l (every_settle c g))
+  every_step (Some i) c g delivers l = delivers i refl
+  every_step None c g delivers l = leaves_if c.system.waiting (shapes.waits c g) (leaves_then (settle_tree size console_size c) l (every_settle c g))

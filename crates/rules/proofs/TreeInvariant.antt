@@ -1,10 +1,10 @@
 -- One induction over the accesses of a tree, with the invariant open: I says something of the events so far, of memory and of what a translator holds. If each
 -- request keeps it, so does every tree.
+use Rattle.std.proofs.Common.{Ok, Err}
 use Prim.Native.Nat.{ℕ}
 use mathlib.Core.Bool.{Bool}
 use mathlib.Core.List.{List, ◌++◌, append_assoc, append-nil}
-use Rattle.paging.specs.declared.Answer.{Answer}
-use Rattle.paging.specs.declared.Answer.TheVariants.{At, Denied}
+use Rattle.paging.specs.Answer.{Answer}
 use Rattle.paging.specs.declared.Space.{Space}
 use Rattle.paging.specs.Event.{Event}
 use Rattle.paging.specs.Translate.{Request, Outcome, Translator}
@@ -19,15 +19,15 @@ module _ {B : Type 0} (tr : Translator B) (s : Space) (I : List Event → List �
     -- the slots of a frame: the second, then the first
     second_keeps : (es : List Event) (p : ℕ) (o t : Outcome B Answer) → After (es ++ o.events) t → (x : Answer) → After es (second_slot tr p o.events t x)
     unfolding second_slot
-    second_keeps es p o t g (At q) = rw (← append_assoc es o.events t.events) g
-    second_keeps es p o t g (Denied f) = rw (← append_assoc es o.events t.events) g
+    second_keeps es p o t g (Ok q) = rw (← append_assoc es o.events t.events) g
+    second_keeps es p o t g (Err f) = rw (← append_assoc es o.events t.events) g
 
     first_keeps : (es : List Event) (va : ℕ) (o : Outcome B Answer) → After es o → (x : Answer) → After es (first_slot tr s va o x)
     unfolding first_slot
-    first_keeps es va o g (At p) =
+    first_keeps es va o g (Ok p) =
         let t = tr.translate s (slot va) o.mem o.buffer in
         second_keeps es p o t (keeps (slot va) (es ++ o.events) o.mem o.buffer g) t.answer
-    first_keeps es va o g (Denied f) = g
+    first_keeps es va o g (Err f) = g
 
     -- one ask
     ask_keeps : (user : Bool) (q : Ask) (es : List Event) (m : List ℕ) (b : B) → I es m b → After es (answered tr s user q m b)

@@ -1,5 +1,6 @@
 -- Document 01, "Numbers returned": a step of the machine with the page buffer keeps the size of memory, and refusal 3 does not come of it, whatever
 -- the step stores.
+use Rattle.std.proofs.Common.{Option}
 use Prim.Native.Nat.{ℕ}
 use mathlib.Core.Path.{◌≡◌, refl, ◌∙◌}
 use mathlib.Core.Bool.{Bool, true}
@@ -14,7 +15,6 @@ use Rattle.paging.specs.Translate.{buffered}
 use Rattle.paging.proofs.BufferLaws.{empty_ok}
 use Rattle.paging.proofs.ValidBuffer.{Valid, Keeps, keeps_all, keeps_both, request_keeps}
 use Rattle.rules.specs.declared.Key.{Key}
-use Rattle.rules.specs.declared.Next.{Next}
 use Rattle.rules.specs.Tree.{Tree, Grant, store_all, interpret}
 use Rattle.rules.specs.Trap.{Effect, none, set_space, deliver, print}
 use Rattle.rules.specs.Clock.{next_of}
@@ -52,7 +52,7 @@ abbrev pub StepKeeps : State (List Entry) → State (List Entry) → Type 0
 StepKeeps s t = Keeps t.cpu.space s.mem t.mem t.buffer
 
 -- a step, with the next key
-step_by_keeps : (k : Next) (s : State (List Entry)) → Valid s.cpu.space s.mem s.buffer → StepKeeps s (step_by buffered k s).state
+step_by_keeps : (k : Option Key) (s : State (List Entry)) → Valid s.cpu.space s.mem s.buffer → StepKeeps s (step_by buffered k s).state
 unfolding step_by
 step_by_keeps k s v =
     let x = step_tree k (length s.mem) (length s.console) s.cpu in

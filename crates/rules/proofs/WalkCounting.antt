@@ -1,13 +1,12 @@
 -- Document 02, item 6: a machine that counts its walks comes to what the same machine comes to without the counter, and the counter has the walks among all
 -- events. Of any translator.
-use Rattle.std.proofs.Common.{if◌then◌else◌}
+use Rattle.std.proofs.Common.{if◌then◌else◌, Ok, Err, Option}
 use Prim.Native.Nat.{ℕ, zero, suc}
 use mathlib.Core.Path.{◌≡◌, refl, ap, ◌∙◌}
 use mathlib.Core.Bool.{Bool, true, false}
 use mathlib.Core.List.{List, [], ◌∷◌, ◌++◌}
 use lib.ListN.{length}
-use Rattle.paging.specs.declared.Answer.{Answer}
-use Rattle.paging.specs.declared.Answer.TheVariants.{At, Denied}
+use Rattle.paging.specs.Answer.{Answer}
 use Rattle.paging.specs.declared.Space.{Space}
 use Rattle.paging.specs.Event.{Event}
 use Rattle.paging.specs.Translate.{Outcome, Translator}
@@ -15,7 +14,6 @@ use Rattle.paging.specs.Counting.{walks_in, raised, Counted, counted, counted_fr
 use Rattle.paging.proofs.CountingLaws.{raised_append, raised_none}
 use Rattle.rules.specs.declared.Cpu.{Cpu}
 use Rattle.rules.specs.declared.Key.{Key}
-use Rattle.rules.specs.declared.Next.{Next}
 use Rattle.rules.specs.Record.{is_running}
 use Rattle.rules.specs.Tree.{Ask, access, slots, Tree, ask, done, Grant, store_events, slot, second_slot, first_slot, answered, Ended, after, interpret}
 use Rattle.rules.specs.Trap.{Effect, none, set_space, deliver, print, Final}
@@ -45,15 +43,15 @@ module _ {B : Type 0} (tr : Translator B) where
   counted_second : (p n : ℕ) (es : List Event) (o : Outcome B Answer) (x : Answer)
       → second_slot (counting tr) p es (counted_from (raised n es) o) x ≡ counted_from n (second_slot tr p es o x)
   unfolding second_slot
-  counted_second p n es o (At q) = rw (raised_append n es o.events)
-  counted_second p n es o (Denied f) = rw (raised_append n es o.events)
+  counted_second p n es o (Ok q) = rw (raised_append n es o.events)
+  counted_second p n es o (Err f) = rw (raised_append n es o.events)
 
   counted_first : (s : Space) (va n : ℕ) (o : Outcome B Answer) (x : Answer) → first_slot (counting tr) s va (counted_from n o) x ≡ counted_from n (first_slot tr s va o x)
   unfolding first_slot
-  counted_first s va n o (At p) =
+  counted_first s va n o (Ok p) =
       let t = tr.translate s (slot va) o.mem o.buffer in
       counted_second p n o.events t t.answer
-  counted_first s va n o (Denied f) = refl
+  counted_first s va n o (Err f) = refl
 
   counted_ask : (s : Space) (user : Bool) (q : Ask) (m : List ℕ) (b : B) (n : ℕ)
       → answered (counting tr) s user q m (counted b n) ≡ counted_from n (answered tr s user q m b)
@@ -106,7 +104,7 @@ module _ {B : Type 0} (tr : Translator B) where
         raised_none (raised n a) b (stores_walks e.grants e.leaf.values),
       )
 
-  counted_by : (k : Next) (n : ℕ) (s : State B) → step_by (counting tr) k (counted_state n s) ≡ counted_step n (step_by tr k s)
+  counted_by : (k : Option Key) (n : ℕ) (s : State B) → step_by (counting tr) k (counted_state n s) ≡ counted_step n (step_by tr k s)
   unfolding step_by
   counted_by k n s =
       let x = step_tree k (length s.mem) (length s.console) s.cpu in

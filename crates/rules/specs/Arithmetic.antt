@@ -8,7 +8,7 @@ use Rattle.decode.specs.declared.Test.{Test}
 use Rattle.decode.specs.declared.Test.TheVariants.{Eq, Ne, Lt, Ltu, Ge, Geu}
 use Rattle.decode.specs.declared.Operand.{Operand}
 use Rattle.decode.specs.declared.Operand.TheVariants.{RegB, Imm, Stack}
-use Rattle.paging.specs.TrapCode.{FARITH}
+use Rattle.paging.specs.declared.TrapCode.TheVariants.{Farith}
 use Rattle.rules.specs.declared.Regs.{Regs}
 use Rattle.rules.specs.Record.{with_a}
 use Rattle.rules.specs.Tree.{Tree, done}
@@ -49,7 +49,7 @@ divides Sru = false
 -- "Zero divisor: FARITH"
 unfoldable pub alu_tree : AluOp → ℕ → Regs → Tree Out
 unfolding alu_of
-alu_tree op y r = if divides op && eqb y 0 then done (trap FARITH) else plain (with_a (alu_of op r.a y) r)
+alu_tree op y r = if divides op && eqb y 0 then done (trap Farith) else plain (with_a (alu_of op r.a y) r)
 
 -- the second operand is "register b, imm, or the word at sp+imm"
 unfoldable pub alu_from : AluOp → Operand → Regs → Tree Out

@@ -6,7 +6,7 @@ use Rattle.decode.specs.declared.Instr.{Instr}
 use Rattle.decode.specs.declared.Instr.TheVariants.{Illegal, Nop, Trap, Cyc, Jsra, Lba, Lca, Ent, Lev, Jmp, Jmpi, Jsr, Lea, Leag, Block, Load}
 use Rattle.decode.specs.declared.Instr.TheVariants.{Store, LoadImm, LoadHigh, Alu, Compare, Bz, Bnz, Branch, Push, Pshi, Pop, Sys}
 use Rattle.paging.specs.declared.Access.TheVariants.{Fetch}
-use Rattle.paging.specs.TrapCode.{FSYS}
+use Rattle.paging.specs.declared.TrapCode.TheVariants.{Fsys}
 use Rattle.rules.specs.declared.Regs.{Regs}
 use Rattle.rules.specs.Record.{with_a, with_b, with_c, with_pc, set_sp}
 use Rattle.rules.specs.Tree.{Reply, got, denied, Tree, ask, done, access}
@@ -21,7 +21,7 @@ unfoldable pub execute_tree : ℕ → Instr → Regs → Tree Out
 unfolding alu_from load_tree store_tree push_tree pop_tree call_tree leave_tree block_tree
 execute_tree w Illegal r = done (undecoded w)
 execute_tree w Nop r = plain r
-execute_tree w Trap r = done (trap FSYS)
+execute_tree w Trap r = done (trap Fsys)
 execute_tree w Cyc r = plain (with_a (r.count % 2 ^ 32) r)
 execute_tree w Jsra r = call_tree (sum r.pc r.a) r
 execute_tree w Lba r = plain (with_b r.a r)

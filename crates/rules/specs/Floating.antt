@@ -1,8 +1,7 @@
 -- Document 02, item 7: every floating instruction. pc has moved 4 on already.
 use Rattle.std.specs.Prelude.{ℕ, Bool, not, [], ◌∷◌}
 use Rattle.word.specs.Word.{sum, difference}
-use Rattle.double.specs.declared.Cut.{Cut}
-use Rattle.double.specs.declared.Cut.TheVariants.{Unfit, Fits}
+use Rattle.std.specs.Prelude.{Option, None, Some}
 use Rattle.double.specs.Arithmetic.{value_of, sum_of, difference_of, product_of, quotient_of, absolute_of}
 use Rattle.double.specs.Comparison.{equals, less, at_least}
 use Rattle.double.specs.Single.{double_of, single_of}
@@ -20,7 +19,7 @@ use Rattle.floating_decode.specs.declared.FloatInstr.{FloatInstr}
 use Rattle.floating_decode.specs.declared.FloatInstr.TheVariants.{Unlisted, Load, Store, LoadImm, Lbad, Arith, Compare, Bzf, Bnzf, Branch, Cid, Cud, Cdi, Cdu}
 use Rattle.floating_decode.specs.declared.FloatInstr.TheVariants.{Push, Pop, Fabs, Flor, Ceil}
 use Rattle.paging.specs.declared.Access.TheVariants.{Write}
-use Rattle.paging.specs.TrapCode.{FINST, FARITH}
+use Rattle.paging.specs.declared.TrapCode.TheVariants.{Finst, Farith}
 use Rattle.rules.specs.declared.Regs.{Regs}
 use Rattle.rules.specs.declared.Floats.{Floats}
 use Rattle.rules.specs.Record.{with_a, set_sp, with_f, with_g}
@@ -95,15 +94,15 @@ float_holds Lt x y = less x y
 float_holds Ge x y = at_least x y
 
 -- CDI, CDU: "NaN or a value that doesn't fit afterwards is FARITH"
-unfoldable pub cut_tree : Cut → Regs → Floats → Tree Out
-cut_tree Unfit r v = done (trap FARITH)
-cut_tree (Fits x) r v = computing (with_a x r) v
+unfoldable pub cut_tree : Option ℕ → Regs → Floats → Tree Out
+cut_tree None r v = done (trap Farith)
+cut_tree (Some x) r v = computing (with_a x r) v
 
 -- ---- every floating instruction
 
 unfoldable pub float_tree : FloatInstr → Regs → Floats → Tree Out
 unfolding float_load_tree float_store_tree float_push_tree float_pop_tree arith_of float_holds cut_tree
-float_tree Unlisted r v = done (trap FINST)
+float_tree Unlisted r v = done (trap Finst)
 float_tree (Load d b p i) r v = float_load_tree d b p i r v
 float_tree (Store b p i) r v = float_store_tree b p i r v
 float_tree (LoadImm d i) r v = computing r (put_float d (of_signed i) v)

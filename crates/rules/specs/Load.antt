@@ -1,13 +1,11 @@
 -- Document 01, "The record and the loaded program", and document 02, items 4 and 7: what a load gives.
-use Rattle.std.specs.Prelude.{ℕ, ◌-◌, false, List, ◌++◌, length, replicate}
-use Rattle.executable.specs.declared.LoadAnswer.{LoadAnswer}
-use Rattle.executable.specs.declared.LoadAnswer.TheVariants.{Accepted, BadSize, ShortFile, BadMagic, BadBody, BadDataStart, BadEntry}
+use Rattle.std.specs.Prelude.{ℕ, ◌-◌, false, List, ◌++◌, length, replicate, Result, Ok, Err, None}
+use Rattle.executable.specs.declared.LoadRefusal.{LoadRefusal}
 use Rattle.executable.specs.Executable.{load_answer, entry_of, body_of}
 use Rattle.paging.specs.declared.Entry.{Entry}
 use Rattle.rules.specs.declared.Cpu.{Cpu}
 use Rattle.rules.specs.declared.Machine.{Machine}
 use Rattle.rules.specs.declared.Stop.TheVariants.{Running}
-use Rattle.rules.specs.declared.LastCause.TheVariants.{None}
 
 -- "pc = entry, sp = M, kbchar = 0xFFFFFFFF, all else 0"; the cause is "none at first", the mode "0 the old one"
 abbrev pub cpu_with : (sp pc kbchar : ℕ) → Cpu
@@ -43,19 +41,14 @@ unfoldable pub image : ℕ → List ℕ → List ℕ
 image size body = body ++ replicate (size - length body) 0
 
 pub record Loaded : Type 0 where
-  pub answer : LoadAnswer
+  pub answer : Result Unit LoadRefusal
   pub machine : Machine
   pub mem : List ℕ
 
 -- "A refused load returns an all-zero record and leaves memory"
-abbrev pub load_by : LoadAnswer → List ℕ → List ℕ → Loaded
-load_by Accepted file m = record { answer = Accepted; machine = empty_machine (fresh_cpu (length m) (entry_of file)); mem = image (length m) (body_of file) }
-load_by BadSize file m = record { answer = BadSize; machine = empty_machine zero_cpu; mem = m }
-load_by ShortFile file m = record { answer = ShortFile; machine = empty_machine zero_cpu; mem = m }
-load_by BadMagic file m = record { answer = BadMagic; machine = empty_machine zero_cpu; mem = m }
-load_by BadBody file m = record { answer = BadBody; machine = empty_machine zero_cpu; mem = m }
-load_by BadDataStart file m = record { answer = BadDataStart; machine = empty_machine zero_cpu; mem = m }
-load_by BadEntry file m = record { answer = BadEntry; machine = empty_machine zero_cpu; mem = m }
+abbrev pub load_by : Result Unit LoadRefusal → List ℕ → List ℕ → Loaded
+load_by (Ok tt) file m = record { answer = Ok tt; machine = empty_machine (fresh_cpu (length m) (entry_of file)); mem = image (length m) (body_of file) }
+load_by (Err e) file m = record { answer = Err e; machine = empty_machine zero_cpu; mem = m }
 
 unfoldable pub load : List ℕ → List ℕ → Loaded
 unfolding image

@@ -1,11 +1,10 @@
 -- Document 01, "The record and the loaded program": the record as one list of numbers, in the order of its first sentences, with document 02's marks and cause in the
 -- places that its item 5 gives them, after the flags and after the stop reason. Keys taken and console bytes written stand beside the list, and the page buffer is no part of it.
-use Rattle.std.specs.Prelude.{ℕ, ◌%◌, ◌^◌, Bool, List, [], ◌∷◌, eqb, get_or, if◌then◌else◌}
+use Rattle.std.specs.Prelude.{ℕ, ◌%◌, ◌^◌, Bool, List, [], ◌∷◌, eqb, get_or, if◌then◌else◌, Option, Some, None}
+use Rattle.paging.specs.declared.Cause.{Cause}
 use Rattle.paging.specs.declared.Cause.TheVariants.{AddressBeyondMemory, DirectoryAbsent, DirectoryBeyondMemory, TableAbsent, NoUserRight, NoWriteRight, FrameBeyondMemory}
 use Rattle.rules.specs.declared.Stop.{Stop}
 use Rattle.rules.specs.declared.Stop.TheVariants.{Running, Halted, Masked, NoFrame}
-use Rattle.rules.specs.declared.LastCause.{LastCause}
-use Rattle.rules.specs.declared.LastCause.TheVariants.{None, Of}
 use Rattle.rules.specs.declared.Cpu.{Cpu}
 use Rattle.rules.specs.Arithmetic.{flag}
 use Rattle.rules.specs.Record.{stop_number, cause_number}
@@ -30,16 +29,16 @@ unfoldable pub stop_of : ℕ → Stop
 stop_of n = if eqb n 0 then Running else (if eqb n 1 then Halted else (if eqb n 2 then Masked else NoFrame))
 
 -- a cause, from its number; each above 7 as 7
-unfoldable pub cause_of : ℕ → LastCause
+unfoldable pub cause_of : ℕ → Option Cause
 cause_of n =
     if eqb n 0 then None
-    else (if eqb n 1 then Of AddressBeyondMemory
-    else (if eqb n 2 then Of DirectoryAbsent
-    else (if eqb n 3 then Of DirectoryBeyondMemory
-    else (if eqb n 4 then Of TableAbsent
-    else (if eqb n 5 then Of NoUserRight
-    else (if eqb n 6 then Of NoWriteRight
-    else Of FrameBeyondMemory))))))
+    else (if eqb n 1 then Some AddressBeyondMemory
+    else (if eqb n 2 then Some DirectoryAbsent
+    else (if eqb n 3 then Some DirectoryBeyondMemory
+    else (if eqb n 4 then Some TableAbsent
+    else (if eqb n 5 then Some NoUserRight
+    else (if eqb n 6 then Some NoWriteRight
+    else Some FrameBeyondMemory))))))
 
 -- a record, from its numbers; those of 32 bits are read by `word`
 unfoldable pub record_by : (ℕ → ℕ) → List ℕ → (taken written : ℕ) → Cpu

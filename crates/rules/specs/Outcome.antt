@@ -3,6 +3,7 @@ use Rattle.std.specs.Prelude.{ℕ, List, [], ◌∷◌}
 use Rattle.decode.specs.declared.SysOp.{SysOp}
 use Rattle.paging.specs.declared.Access.TheVariants.{Read, Write}
 use Rattle.paging.specs.declared.Fault.{Fault}
+use Rattle.paging.specs.declared.TrapCode.{TrapCode}
 use Rattle.rules.specs.declared.Regs.{Regs}
 use Rattle.rules.specs.declared.Floats.{Floats}
 use Rattle.rules.specs.Tree.{Reply, got, denied, Tree, ask, done, access}
@@ -13,7 +14,7 @@ pub data Out : Type 0 where
   -- the fetch was denied
   unfetched : Fault → Out
   -- a fault without an address, or TRAP: its code
-  trap : ℕ → Out
+  trap : TrapCode → Out
   -- an operand access was denied
   refused : Fault → Out
   -- a privileged instruction

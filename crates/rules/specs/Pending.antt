@@ -1,11 +1,10 @@
 -- Document 02, item 1: the words of its laws (proofs/PendingLaws.antt, NoneLost.antt).
-use Rattle.std.specs.Prelude.{Bool, true, false, List, [], ◌∷◌, ◌++◌, ◌≡◌}
+use Rattle.std.specs.Prelude.{Bool, true, false, List, [], ◌∷◌, ◌++◌, ◌≡◌, Option, Some}
 use Rattle.paging.specs.Event.{Event, delivered}
+use Rattle.rules.specs.declared.Key.{Key}
 use Rattle.rules.specs.declared.Cpu.{Cpu}
-use Rattle.rules.specs.declared.Due.TheVariants.{Now}
 use Rattle.rules.specs.declared.Interrupt.{Interrupt}
 use Rattle.rules.specs.declared.Interrupt.TheVariants.{Keyboard, Timer}
-use Rattle.rules.specs.declared.Next.{Next}
 use Rattle.rules.specs.declared.Pending.{Pending}
 use Rattle.rules.specs.declared.Stop.TheVariants.{NoFrame}
 use Rattle.rules.specs.Clock.{key_comes, timer_fires, interrupt_code, due_of}
@@ -13,7 +12,7 @@ use Rattle.rules.specs.Step.{Stepped}
 use Rattle.rules.specs.Run.{Ran}
 
 -- "a key or timer event", in the step from c
-abbrev pub happens : Interrupt → Next → Cpu → Bool
+abbrev pub happens : Interrupt → Option Key → Cpu → Bool
 happens Keyboard next c = key_comes next c
 happens Timer next c = timer_fires c.clock
 
@@ -34,7 +33,7 @@ module _ {B : Type 0} (i : Interrupt) where
   -- a mark after a step, where c is the record after rules 1 to 3: as it was, or the interrupt was due, is delivered, and the mark is clear
   pub data PendingAfter (c : Cpu) (r : Stepped B) : Type 0 where
     kept : pending_of i r.state.cpu ≡ pending_of i c → PendingAfter c r
-    clear : due_of c ≡ Now i → Delivered r → pending_of i r.state.cpu ≡ false → PendingAfter c r
+    clear : due_of c ≡ Some i → Delivered r → pending_of i r.state.cpu ≡ false → PendingAfter c r
 
   -- an interrupt that was due is delivered, or the machine stopped with 3: "a stop with 3 keeps it"
   pub data DueAfter (r : Stepped B) : Type 0 where

@@ -1,6 +1,7 @@
 -- Document 01, "The record and the loaded program", and document 02, items 1, 4 and 7: the numbers of stop reasons and causes, and the record with one part put in place.
-use Rattle.std.specs.Prelude.{ℕ, Bool, true, false}
+use Rattle.std.specs.Prelude.{ℕ, Bool, true, false, Option, Some, None}
 use Rattle.word.specs.Word.{cut}
+use Rattle.paging.specs.declared.Cause.{Cause}
 use Rattle.paging.specs.declared.Cause.TheVariants.{AddressBeyondMemory, DirectoryAbsent, DirectoryBeyondMemory, TableAbsent, NoUserRight, NoWriteRight, FrameBeyondMemory}
 use Rattle.paging.specs.declared.Fault.{Fault}
 use Rattle.paging.specs.declared.Space.{Space}
@@ -10,8 +11,6 @@ use Rattle.rules.specs.declared.Pending.{Pending}
 use Rattle.rules.specs.declared.System.{System}
 use Rattle.rules.specs.declared.Stop.{Stop}
 use Rattle.rules.specs.declared.Stop.TheVariants.{Running, Halted, Masked, NoFrame}
-use Rattle.rules.specs.declared.LastCause.{LastCause}
-use Rattle.rules.specs.declared.LastCause.TheVariants.{None, Of}
 use Rattle.rules.specs.declared.Floats.{Floats}
 use Rattle.rules.specs.declared.Cpu.{Cpu}
 
@@ -23,15 +22,15 @@ stop_number Masked = 2
 stop_number NoFrame = 3
 
 -- document 02, item 5: "cause (0 none, then item 4's order)"
-abbrev pub cause_number : LastCause → ℕ
+abbrev pub cause_number : Option Cause → ℕ
 cause_number None = 0
-cause_number (Of AddressBeyondMemory) = 1
-cause_number (Of DirectoryAbsent) = 2
-cause_number (Of DirectoryBeyondMemory) = 3
-cause_number (Of TableAbsent) = 4
-cause_number (Of NoUserRight) = 5
-cause_number (Of NoWriteRight) = 6
-cause_number (Of FrameBeyondMemory) = 7
+cause_number (Some AddressBeyondMemory) = 1
+cause_number (Some DirectoryAbsent) = 2
+cause_number (Some DirectoryBeyondMemory) = 3
+cause_number (Some TableAbsent) = 4
+cause_number (Some NoUserRight) = 5
+cause_number (Some NoWriteRight) = 6
+cause_number (Some FrameBeyondMemory) = 7
 
 abbrev pub is_running : Stop → Bool
 is_running Running = true
@@ -93,7 +92,7 @@ with_fault f c = record {
   vadr = f.address;
   space = c.space;
   system = c.system;
-  cause = Of f.cause;
+  cause = Some f.cause;
   stop = c.stop;
   written = c.written;
   model = c.model;

@@ -1,23 +1,23 @@
 -- Document 01, "Numbers returned": a run's refusals, and a run.
-use Rattle.std.specs.Prelude.{ℕ, zero, suc, ◌%◌, ◌^◌, Bool, true, false, ◌&&◌, List, [], ◌∷◌, length, eqb, ltb, leb, if◌then◌else◌}
+use Rattle.std.specs.Prelude.{ℕ, zero, suc, ◌%◌, ◌^◌, Bool, true, false, ◌&&◌, List, [], ◌∷◌, length, eqb, ltb, leb, if◌then◌else◌, Result, Ok, Err}
 use Rattle.memory.specs.Memory.{size_ok}
 use Rattle.paging.specs.Translate.{Translator}
 use Rattle.rules.specs.declared.Cpu.{Cpu}
 use Rattle.rules.specs.declared.Key.{Key}
-use Rattle.rules.specs.declared.RunAnswer.{RunAnswer}
-use Rattle.rules.specs.declared.RunAnswer.TheVariants.{Accepted, BadSize, BadRegisters, BadBuffer, BadKeys, BadConsole, BadBudget}
+use Rattle.rules.specs.declared.RunRefusal.{RunRefusal}
+use Rattle.rules.specs.declared.RunRefusal.TheVariants.{BadSize, BadRegisters, BadBuffer, BadKeys, BadConsole, BadBudget}
 use Rattle.rules.specs.Record.{is_running}
 use Rattle.rules.specs.Step.{State, Stepped, step}
 
 -- the numbers of the answers
-abbrev pub run_number : RunAnswer → ℕ
-run_number Accepted = 0
-run_number BadSize = 1
-run_number BadRegisters = 2
-run_number BadBuffer = 3
-run_number BadKeys = 4
-run_number BadConsole = 5
-run_number BadBudget = 6
+abbrev pub run_number : Result Unit RunRefusal → ℕ
+run_number (Ok tt) = 0
+run_number (Err BadSize) = 1
+run_number (Err BadRegisters) = 2
+run_number (Err BadBuffer) = 3
+run_number (Err BadKeys) = 4
+run_number (Err BadConsole) = 5
+run_number (Err BadBudget) = 6
 
 -- ---- the refusals: 1 is `size_ok`, 3 the translator's `accepts`
 
@@ -52,25 +52,20 @@ abbrev pub budget_ok : ℕ → Bool
 budget_ok budget = leb budget 1000000
 
 -- "lower number wins"
-abbrev pub first_refusal : (size registers buffer keys console budget : Bool) → RunAnswer
+abbrev pub first_refusal : (size registers buffer keys console budget : Bool) → Result Unit RunRefusal
 first_refusal size registers buffer keys console budget =
     if size
     then (if registers
-    then (if buffer then (if keys then (if console then (if budget then Accepted else BadBudget) else BadConsole) else BadKeys) else BadBuffer)
-    else BadRegisters)
-    else BadSize
+    then (if buffer then (if keys then (if console then (if budget then Ok tt else Err BadBudget) else Err BadConsole) else Err BadKeys) else Err BadBuffer)
+    else Err BadRegisters)
+    else Err BadSize
 
-abbrev pub is_accepted : RunAnswer → Bool
-is_accepted Accepted = true
-is_accepted BadSize = false
-is_accepted BadRegisters = false
-is_accepted BadBuffer = false
-is_accepted BadKeys = false
-is_accepted BadConsole = false
-is_accepted BadBudget = false
+abbrev pub is_accepted : Result Unit RunRefusal → Bool
+is_accepted (Ok tt) = true
+is_accepted (Err e) = false
 
 module _ {B : Type 0} (tr : Translator B) where
-  unfoldable pub run_answer : List Key → ℕ → State B → RunAnswer
+  unfoldable pub run_answer : List Key → ℕ → State B → Result Unit RunRefusal
   run_answer ks budget s =
       first_refusal (size_ok (length s.mem)) (registers_ok (length s.mem) s.cpu) (tr.accepts (length s.mem) s.buffer)
       (keys_ok ks s.cpu.clock.taken) (console_ok s.cpu.written s.console) (budget_ok budget)
@@ -90,18 +85,18 @@ last_of s (t ∷ ts) = last_of t.state ts
 
 -- a run: the answer, the steps made, and the state at the end; the reported steps (document 01's term) are the steps' number
 pub record Ran (B : Type 0) : Type 0 where
-  pub answer : RunAnswer
+  pub answer : Result Unit RunRefusal
   pub steps : List (Stepped B)
   pub state : State B
 
-abbrev pub ran : {B : Type 0} → RunAnswer → State B → List (Stepped B) → Ran B
+abbrev pub ran : {B : Type 0} → Result Unit RunRefusal → State B → List (Stepped B) → Ran B
 ran a s ts = record { answer = a; steps = ts; state = last_of s ts }
 
 abbrev pub reported : {B : Type 0} → Ran B → ℕ
 reported r = length r.steps
 
 -- the budget of a refused run is not used
-abbrev pub allowance : RunAnswer → ℕ → ℕ
+abbrev pub allowance : Result Unit RunRefusal → ℕ → ℕ
 allowance a budget = if is_accepted a then budget else 0
 
 unfoldable pub run : {B : Type 0} → Translator B → List Key → ℕ → State B → Ran B

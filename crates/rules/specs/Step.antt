@@ -1,16 +1,13 @@
 -- Document 01, "One step", and document 02, items 1 and 7: a step of the machine with the page buffer and of the table reader, by one rule.
-use Rattle.std.specs.Prelude.{ℕ, ◌+◌, false, List, [], ◌∷◌, ◌++◌, length, set, if◌then◌else◌}
+use Rattle.std.specs.Prelude.{ℕ, ◌+◌, false, List, [], ◌∷◌, ◌++◌, length, set, if◌then◌else◌, Option, Some, None}
 use Rattle.paging.specs.declared.Space.{Space}
 use Rattle.floating_decode.specs.Opcodes.{floating_decode_of}
-use Rattle.paging.specs.TrapCode.{FINST}
+use Rattle.paging.specs.declared.TrapCode.TheVariants.{Finst}
 use Rattle.paging.specs.Event.{Event, delivered}
 use Rattle.paging.specs.Translate.{Translator}
 use Rattle.rules.specs.declared.Cpu.{Cpu}
-use Rattle.rules.specs.declared.Due.{Due}
-use Rattle.rules.specs.declared.Due.TheVariants.{Nothing, Now}
 use Rattle.rules.specs.declared.Interrupt.{Interrupt}
 use Rattle.rules.specs.declared.Key.{Key}
-use Rattle.rules.specs.declared.Next.{Next}
 use Rattle.rules.specs.Record.{with_count, with_regs, with_space, with_system, with_floats, with_waiting}
 use Rattle.rules.specs.Tree.{Tree, done, bind, Ended, store_all, store_events, interpret}
 use Rattle.rules.specs.Outcome.{Out, fine, unfetched, trap, refused, system, floated, undecoded}
@@ -46,7 +43,7 @@ settle_tree size console_size c (trap code) = trap_tree c code (next_pc c)
 settle_tree size console_size c (refused f) = fault_tree c f (next_pc c)
 settle_tree size console_size c (system op) = system_tree size console_size op c
 settle_tree size console_size c (floated r v vs) = final (with_floats v (with_regs r c)) vs nothing
-settle_tree size console_size c (undecoded w) = trap_tree c FINST (next_pc c)
+settle_tree size console_size c (undecoded w) = trap_tree c Finst (next_pc c)
 
 -- "waiting ends"
 abbrev pub awake : Cpu → Cpu
@@ -58,13 +55,13 @@ abbrev pub interrupt_tree : Interrupt → Cpu → Tree Final
 interrupt_tree i c = deliver_tree (awake c) (cleared i c.clock.pending) (interrupt_code i) c.regs.pc
 
 -- rules 4 and 5: "If something is due, waiting ends and the trap is delivered; the step ends. If waiting, the step ends. Else fetch"
-unfoldable pub due_tree : Due → (size console_size : ℕ) → Cpu → Tree Final
+unfoldable pub due_tree : Option Interrupt → (size console_size : ℕ) → Cpu → Tree Final
 unfolding settle_tree executed_tree
-due_tree (Now i) size console_size c = interrupt_tree i c
-due_tree Nothing size console_size c = if c.system.waiting then ended c else bind (executed_tree c) (settle_tree size console_size c)
+due_tree (Some i) size console_size c = interrupt_tree i c
+due_tree None size console_size c = if c.system.waiting then ended c else bind (executed_tree c) (settle_tree size console_size c)
 
 -- a step, from the record before it
-unfoldable pub step_tree : Next → (size console_size : ℕ) → Cpu → Tree Final
+unfoldable pub step_tree : Option Key → (size console_size : ℕ) → Cpu → Tree Final
 unfolding due_tree
 step_tree next size console_size c =
     let t = ticked next c in
@@ -131,7 +128,7 @@ module _ {B : Type 0} (tr : Translator B) where
   unfolding finished finished_events
   stepped_by c con e = record { state = finished (c.regs.count + 1) c.space c.written con e; events = finished_events e }
 
-  unfoldable pub step_by : Next → State B → Stepped B
+  unfoldable pub step_by : Option Key → State B → Stepped B
   unfolding step_tree stepped_by
   step_by next s =
       stepped_by s.cpu s.console

@@ -8,7 +8,8 @@ use Rattle.decode.specs.declared.SysOp.TheVariants.{Plain, Rti, Bout, Pdir, Spag
 use Rattle.paging.specs.declared.Access.TheVariants.{Read}
 use Rattle.paging.specs.declared.Cause.TheVariants.{AddressBeyondMemory}
 use Rattle.paging.specs.Walk.{bit}
-use Rattle.paging.specs.TrapCode.{FMEM, FPRIV, USER}
+use Rattle.paging.specs.declared.TrapCode.TheVariants.{Fmem, Fpriv}
+use Rattle.paging.specs.TrapCode.{USER}
 use Rattle.rules.specs.declared.Stop.TheVariants.{Halted}
 use Rattle.rules.specs.declared.Cpu.{Cpu}
 use Rattle.rules.specs.Record.{set_pc, set_sp, with_sp, with_regs, with_system, with_clock, with_stop, with_written, with_usp, with_ksp, with_pdir}
@@ -74,7 +75,7 @@ directed c = final c [] (set_space (with_pdir (cut 4096 c.regs.a) c.space))
 
 unfoldable pub pdir_tree : ℕ → Cpu → Cpu → Tree Final
 unfolding fault_tree
-pdir_tree size old c = if ltb c.regs.a size then directed c else fault_tree old (record { code = FMEM; cause = AddressBeyondMemory; address = c.regs.a }) (next_pc old)
+pdir_tree size old c = if ltb c.regs.a size then directed c else fault_tree old (record { code = Fmem; cause = AddressBeyondMemory; address = c.regs.a }) (next_pc old)
 
 -- "SPAG: paging = (a ≠ 0)"; c has pc moved on
 abbrev pub spag_tree : Cpu → Tree Final
@@ -96,5 +97,5 @@ unfoldable pub system_tree : (size console_size : ℕ) → SysOp → Cpu → Tre
 unfolding privileged_tree trap_tree
 system_tree size console_size op c =
     if c.system.user
-    then trap_tree c FPRIV (next_pc c)
+    then trap_tree c Fpriv (next_pc c)
     else privileged_tree size console_size op c (with_regs (moved c.regs) c)

@@ -1,14 +1,13 @@
 -- A step as a tree of accesses: `ask` for one and go on with the reply, or be `done`. Both machines interpret the same trees.
 -- All stores stand in the leaf, and name no address: the values go, in order, through the latest granted writes. So nothing is translated after
 -- a store, a faulting instruction changes no byte, and what is stored was translated for writing.
-use Rattle.std.specs.Prelude.{ℕ, Bool, false, List, [], ◌∷◌, ◌++◌, if◌then◌else◌}
+use Rattle.std.specs.Prelude.{ℕ, Bool, false, List, [], ◌∷◌, ◌++◌, if◌then◌else◌, Ok, Err}
 use Rattle.memory.specs.Memory.{load_n, store_n}
 use Rattle.paging.specs.declared.Access.{Access}
 use Rattle.paging.specs.declared.Access.TheVariants.{Write}
 use Rattle.paging.specs.declared.Space.{Space}
 use Rattle.paging.specs.declared.Fault.{Fault}
-use Rattle.paging.specs.declared.Answer.{Answer}
-use Rattle.paging.specs.declared.Answer.TheVariants.{At, Denied}
+use Rattle.paging.specs.Answer.{Answer}
 use Rattle.paging.specs.Event.{Event, stored}
 use Rattle.paging.specs.Walk.{is_write}
 use Rattle.paging.specs.Translate.{Request, Outcome, outcome, Translator}
@@ -63,8 +62,8 @@ replied r gs = record { reply = r; grants = gs }
 
 -- what translation's answer tells the rule
 unfoldable pub reply_to : Access → ℕ → List ℕ → Answer → Replied
-reply_to kind n m (At p) = replied (got (load_n n m p)) (if is_write kind then grant p n ∷ [] else [])
-reply_to kind n m (Denied f) = replied (denied f) []
+reply_to kind n m (Ok p) = replied (got (load_n n m p)) (if is_write kind then grant p n ∷ [] else [])
+reply_to kind n m (Err f) = replied (denied f) []
 
 -- a slot is four bytes, written in kernel mode
 abbrev pub slot : ℕ → Request
@@ -75,13 +74,13 @@ requested kind n va user = record { kind = kind; size = n; addr = va; user = use
 
 module _ {B : Type 0} (tr : Translator B) where
   unfoldable pub second_slot : ℕ → List Event → Outcome B Answer → Answer → Outcome B Replied
-  second_slot p es o (Denied f) = outcome (replied (denied f) []) o.mem o.buffer (es ++ o.events)
-  second_slot p es o (At q) = outcome (replied (got 0) (grant p 4 ∷ grant q 4 ∷ [])) o.mem o.buffer (es ++ o.events)
+  second_slot p es o (Err f) = outcome (replied (denied f) []) o.mem o.buffer (es ++ o.events)
+  second_slot p es o (Ok q) = outcome (replied (got 0) (grant p 4 ∷ grant q 4 ∷ [])) o.mem o.buffer (es ++ o.events)
 
   unfoldable pub first_slot : Space → ℕ → Outcome B Answer → Answer → Outcome B Replied
   unfolding second_slot
-  first_slot s va o (Denied f) = outcome (replied (denied f) []) o.mem o.buffer o.events
-  first_slot s va o (At p) =
+  first_slot s va o (Err f) = outcome (replied (denied f) []) o.mem o.buffer o.events
+  first_slot s va o (Ok p) =
       let t = tr.translate s (slot va) o.mem o.buffer in
       second_slot p o.events t t.answer
 

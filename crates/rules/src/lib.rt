@@ -4,9 +4,9 @@
 ghost use Rattle.std.specs.Prelude.{◌≡◌};
 ghost use Rattle.rules.specs.Record.{stop_number, cause_number, is_running};
 ghost use Rattle.rules.specs.Clock.{interrupt_code};
-ghost use Rattle.rules.specs.Run.{run_number, is_accepted};
+ghost use Rattle.rules.specs.Run.{run_number};
 
-use paging::{Cause, Entry, Space};
+use paging::{Cause, Entry, Space, TrapCode};
 
 // What ordinary instructions change, and the step count.
 #[derive(Clone, Copy)]
@@ -58,13 +58,6 @@ pub enum Stop {
     NoFrame,
 }
 
-// The cause of the latest fault: none at first.
-#[derive(Clone, Copy)]
-pub enum LastCause {
-    None,
-    Of(Cause),
-}
-
 // The floating registers, as 64-bit patterns.
 #[derive(Clone, Copy)]
 pub struct Floats {
@@ -78,7 +71,7 @@ pub struct Model {
     pub doubles: bool,
 }
 
-// The record without the page buffer. `vadr` is the faulting address, with `cause`, which, as `model`, takes no room where it stands; `written` is the count of console bytes.
+// The record without the page buffer. `vadr` is the latest fault's address, with `cause`, none at first, which, as `model`, takes no room where it stands; `written` is the count of console bytes.
 #[derive(Clone, Copy)]
 pub struct Cpu {
     pub regs: Regs,
@@ -86,7 +79,7 @@ pub struct Cpu {
     pub vadr: u32,
     pub space: Space,
     pub system: System,
-    pub cause: LastCause,
+    pub cause: Option<Cause>,
     pub stop: Stop,
     pub model: Model,
     pub written: usize,
@@ -108,14 +101,6 @@ pub struct Key {
     pub byte: u8,
 }
 
-// The next key of a list, if there is one.
-#[derive(Clone, Copy)]
-pub struct Next {
-    pub some: bool,
-    pub step: u64,
-    pub byte: u8,
-}
-
 // An interrupt, by what raises it.
 #[derive(Clone, Copy)]
 pub enum Interrupt {
@@ -123,62 +108,49 @@ pub enum Interrupt {
     Timer,
 }
 
-// What is due in a step.
-#[derive(Clone, Copy)]
-pub enum Due {
-    Nothing,
-    Now(Interrupt),
+// Why a run is refused, by number.
+#[derive(Clone, Copy, Debug, PartialEq, Eq)]
+pub enum RunRefusal {
+    BadSize = 1,
+    BadRegisters = 2,
+    BadBuffer = 3,
+    BadKeys = 4,
+    BadConsole = 5,
+    BadBudget = 6,
 }
 
-// What a run answers.
-#[derive(Clone, Copy)]
-pub enum RunAnswer {
-    Accepted,
-    BadSize,
-    BadRegisters,
-    BadBuffer,
-    BadKeys,
-    BadConsole,
-    BadBudget,
-}
-
-// The number of a stop reason.
+// The number of a stop reason: its place among them.
 pub fn stop_number(stop: Stop) -> u32
     ensures { result ≡ stop_number stop }
 {
-    match stop {
-        Stop::Running => 0,
-        Stop::Halted => 1,
-        Stop::Masked => 2,
-        Stop::NoFrame => 3,
-    }
+    stop as u32
 }
 
-// The number of a cause.
-pub fn cause_number(cause: LastCause) -> u32
+// The number of a cause. A match, as no impl here can be for an `Option` of a type of another crate, and `c as u32 + 1` would hide the numbers.
+pub fn cause_number(cause: Option<Cause>) -> u32
     ensures { result ≡ cause_number cause }
 {
     match cause {
-        LastCause::None => 0,
-        LastCause::Of(c) => match c {
-            Cause::AddressBeyondMemory => 1,
-            Cause::DirectoryAbsent => 2,
-            Cause::DirectoryBeyondMemory => 3,
-            Cause::TableAbsent => 4,
-            Cause::NoUserRight => 5,
-            Cause::NoWriteRight => 6,
-            Cause::FrameBeyondMemory => 7,
-        },
+        None => 0,
+        Some(Cause::AddressBeyondMemory) => 1,
+        Some(Cause::DirectoryAbsent) => 2,
+        Some(Cause::DirectoryBeyondMemory) => 3,
+        Some(Cause::TableAbsent) => 4,
+        Some(Cause::NoUserRight) => 5,
+        Some(Cause::NoWriteRight) => 6,
+        Some(Cause::FrameBeyondMemory) => 7,
     }
 }
 
 // The trap code of an interrupt.
-pub fn interrupt_code(i: Interrupt) -> u16
-    ensures { result ≡ interrupt_code i }
-{
-    match i {
-        Interrupt::Keyboard => paging::FKEYBD,
-        Interrupt::Timer => paging::FTIMER,
+impl From<Interrupt> for TrapCode {
+    ghost from_gives = { λ i code. code ≡ interrupt_code i };
+
+    fn from(i: Interrupt) -> TrapCode {
+        match i {
+            Interrupt::Keyboard => TrapCode::Fkeybd,
+            Interrupt::Timer => TrapCode::Ftimer,
+        }
     }
 }
 
@@ -186,40 +158,15 @@ pub fn interrupt_code(i: Interrupt) -> u16
 pub fn is_running(s: Stop) -> bool
     ensures { result ≡ is_running s }
 {
-    match s {
-        Stop::Running => true,
-        Stop::Halted => false,
-        Stop::Masked => false,
-        Stop::NoFrame => false,
-    }
+    matches!(s, Stop::Running)
 }
 
-// The number of an answer.
-pub fn run_number(a: RunAnswer) -> u32
+// The number of an answer, 0 of an accepted run.
+pub fn run_number(a: Result<(), RunRefusal>) -> u32
     ensures { result ≡ run_number a }
 {
     match a {
-        RunAnswer::Accepted => 0,
-        RunAnswer::BadSize => 1,
-        RunAnswer::BadRegisters => 2,
-        RunAnswer::BadBuffer => 3,
-        RunAnswer::BadKeys => 4,
-        RunAnswer::BadConsole => 5,
-        RunAnswer::BadBudget => 6,
-    }
-}
-
-// Whether an answer is 0.
-pub fn is_accepted(a: RunAnswer) -> bool
-    ensures { result ≡ is_accepted a }
-{
-    match a {
-        RunAnswer::Accepted => true,
-        RunAnswer::BadSize => false,
-        RunAnswer::BadRegisters => false,
-        RunAnswer::BadBuffer => false,
-        RunAnswer::BadKeys => false,
-        RunAnswer::BadConsole => false,
-        RunAnswer::BadBudget => false,
+        Ok(()) => 0,
+        Err(refusal) => refusal as u32,
     }
 }

@@ -1,4 +1,5 @@
 -- Document 01, "One step": the loop of a run up to its next key: how it starts, goes on, and ends.
+use Rattle.std.proofs.Common.{Option}
 use Prim.Native.Nat.{ℕ, zero, suc, ◌+◌, ◌≤◌, ◌<◌}
 use native.Mathlib.Omega.{arith}
 use mathlib.Core.Bool.{Bool, true, false, ◌&&◌, true≢false}
@@ -12,7 +13,6 @@ use Rattle.mmu.specs.Good.{Good}
 use Rattle.clock.specs.Taken.{KeyFits}
 use Rattle.rules.specs.declared.Cpu.{Cpu}
 use Rattle.rules.specs.declared.Key.{Key}
-use Rattle.rules.specs.declared.Next.{Next}
 use Rattle.rules.specs.declared.Stop.TheVariants.{Running}
 use Rattle.rules.specs.Clock.{next_of}
 use Rattle.contracts.specs.Contract.{state_of, end_of}
@@ -22,7 +22,7 @@ use Rattle.runs.specs.Advance.{left_of, Goes}
 use Rattle.runs.proofs.Left.{left_least, left_running, end_left}
 
 -- a turn's start: the record x with n steps left, after some steps or none from the record c with `left`
-pub record Turn (c : Cpu) (left : ℕ) (k : Next) (m con l : List ℕ) (x : Cpu) (n : ℕ) (m' con' l' : List ℕ) : Type 0 where
+pub record Turn (c : Cpu) (left : ℕ) (k : Option Key) (m con l : List ℕ) (x : Cpu) (n : ℕ) (m' con' l' : List ℕ) : Type 0 where
   pub good : Good (length m') x.space.pdir l'
   pub running : 0 < n → x.stop ≡ Running
   pub least : n ≤ left
@@ -32,7 +32,7 @@ pub record Turn (c : Cpu) (left : ℕ) (k : Next) (m con l : List ℕ) (x : Cpu)
   pub count : x.regs.count + n ≤ c.regs.count + left
   pub same : (ks : List Key) → next_of ks c.clock.taken ≡ k → end_of ks left (state_of c m con l) ≡ end_of ks n (state_of x m' con' l')
 
-module _ {c : Cpu} {left : ℕ} {k : Next} {m con l : List ℕ} (r : Ready c left m l) where
+module _ {c : Cpu} {left : ℕ} {k : Option Key} {m con l : List ℕ} (r : Ready c left m l) where
   pub turn_first : Turn c left k m con l c left m con l
   turn_first = record {
     good = r.good;
@@ -58,8 +58,8 @@ module _ {c : Cpu} {left : ℕ} {k : Next} {m con l : List ℕ} (r : Ready c lef
     pub turn_ready : Tested true → Ready x n m' l'
     turn_ready e = record { good = t.good; running = t.running (some e); some = some e; count = omega (arith, t.count, r.count) }
 
-    pub turn_fits : Tested true → KeyFits k.some c.clock.taken → KeyFits k.some x.clock.taken
-    turn_fits e f = subst (λ (i : ℕ). KeyFits k.some i) (sym (untaken e)) f
+    pub turn_fits : Tested true → KeyFits k c.clock.taken → KeyFits k x.clock.taken
+    turn_fits e f = subst (λ (i : ℕ). KeyFits k i) (sym (untaken e)) f
 
     module _ (e : Tested true) {a : Advanced} {m'' con'' l'' : List ℕ} (h : Advances x n k m' con' l' a m'' con'' l'') {i : ℕ} (q : i ≡ left_of a.cpu.stop a.left) where
       few : i ≤ a.left

@@ -1,4 +1,5 @@
 -- Document 01, "Numbers returned": a run goes on by one key, from what its parts ensure.
+use Rattle.std.proofs.Common.{Result, Option}
 use Prim.Native.Nat.{ℕ, ◌+◌, ◌-◌}
 use native.Mathlib.Omega.{arith}
 use mathlib.Core.Bool.{Bool}
@@ -11,10 +12,10 @@ use Rattle.paging.specs.Counting.{counted}
 use Rattle.buffer.specs.Held.{count, walks, entries_in, Buffer}
 use Rattle.mmu.specs.Translates.{Kept, kept_in}
 use Rattle.clock.specs.Taken.{KeyFits}
+use Rattle.rules.specs.declared.Key.{Key}
 use Rattle.rules.specs.declared.Cpu.{Cpu}
-use Rattle.rules.specs.declared.Next.{Next}
 use Rattle.rules.specs.declared.Machine.{Machine}
-use Rattle.rules.specs.declared.RunAnswer.{RunAnswer}
+use Rattle.rules.specs.declared.RunRefusal.{RunRefusal}
 use Rattle.rules.specs.Clock.{next_of}
 use Rattle.rules.specs.Run.{allowance}
 use Rattle.contracts.specs.Contract.{end_of}
@@ -28,7 +29,7 @@ use Rattle.runs.specs.UnderWay.{Able, Proceeds, begin_of}
 use Rattle.runs.proofs.Entries.{unpacked_first}
 
 module _ {g : UnderWay} {size : ℕ} (b : Able g size) where
-  pub able_key : {key : Bool} → KeyFits key g.taken → KeyFits key g.ran.machine.cpu.clock.taken
+  pub able_key : {key : Option Key} → KeyFits key g.taken → KeyFits key g.ran.machine.cpu.clock.taken
   able_key {key} f = subst (λ (i : ℕ). KeyFits key i) b.taken f
 
 module _ {g : UnderWay} {m : List ℕ} (b : Able g (length m)) {l : List ℕ}
@@ -41,7 +42,7 @@ module _ {g : UnderWay} {m : List ℕ} (b : Able g (length m)) {l : List ℕ}
     count = b.count;
   }
 
-  module _ {k : Next} {con m' con' l' : List ℕ} {a : Advanced} (t : Goes g.ran.machine.cpu g.left k m con l a m' con' l') where
+  module _ {k : Option Key} {con m' con' l' : List ℕ} {a : Advanced} (t : Goes g.ran.machine.cpu g.left k m con l a m' con' l') where
     module _ (es : List Entry) (e : take (count l') es ≡ entries_in l') {n w : ℕ} (c : n ≡ count l') (d : w ≡ walks l') where
       first : first_slots n es ≡ entries_in l'
       first = rw c (unpacked_first l' es t.good.buffer e)
@@ -85,7 +86,7 @@ module _ {g : UnderWay} {m : List ℕ} (b : Able g (length m)) {l : List ℕ}
           proceeds
 
 -- how a run begins
-pub begins : (m : Machine) (size console_size : ℕ) (rising : Bool) (keys budget : ℕ) {a : RunAnswer} {n i : ℕ} → a ≡ refusal_of m size console_size rising keys budget
+pub begins : (m : Machine) (size console_size : ℕ) (rising : Bool) (keys budget : ℕ) {a : Result Unit RunRefusal} {n i : ℕ} → a ≡ refusal_of m size console_size rising keys budget
     → n ≡ allowance a budget → i ≡ left_of m.cpu.stop n
     → record { taken = m.cpu.clock.taken; left = i; ran = record { machine = m; answer = a; steps = 0; walks = 0 } } ≡ begin_of m size console_size rising keys budget
 unfolding begin_of

@@ -1,9 +1,8 @@
 -- Document 01, "One step": a run goes on until its next key is taken, or to its end.
-use Rattle.std.specs.Prelude.{ℕ, ◌+◌, ◌≤◌, ◌<◌, ◌≡◌, List, length, if◌then◌else◌}
+use Rattle.std.specs.Prelude.{ℕ, ◌+◌, ◌≤◌, ◌<◌, ◌≡◌, List, length, if◌then◌else◌, Option}
 use Rattle.mmu.specs.Good.{Good}
 use Rattle.rules.specs.declared.Cpu.{Cpu}
 use Rattle.rules.specs.declared.Key.{Key}
-use Rattle.rules.specs.declared.Next.{Next}
 use Rattle.rules.specs.declared.Stop.{Stop}
 use Rattle.rules.specs.declared.Stop.TheVariants.{Running}
 use Rattle.rules.specs.Record.{is_running}
@@ -16,7 +15,7 @@ unfoldable pub left_of : Stop → ℕ → ℕ
 left_of s n = if is_running s then n else 0
 
 -- the end of a run from the record c, with `left` steps and the next key, is that of the run from g: at least one step was made
-pub record Goes (c : Cpu) (left : ℕ) (next : Next) (m con l : List ℕ) (g : Advanced) (m' con' l' : List ℕ) : Type 0 where
+pub record Goes (c : Cpu) (left : ℕ) (next : Option Key) (m con l : List ℕ) (g : Advanced) (m' con' l' : List ℕ) : Type 0 where
   pub good : Good (length m') g.cpu.space.pdir l'
   pub running : 0 < g.left → g.cpu.stop ≡ Running
   pub less : g.left < left

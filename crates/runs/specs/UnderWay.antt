@@ -1,11 +1,10 @@
 -- Document 01, "Numbers returned": a run under way, from its beginning to its end.
-use Rattle.std.specs.Prelude.{ℕ, ◌+◌, ◌≤◌, ◌<◌, ◌^◌, ◌≡◌, Bool, true, List, length}
+use Rattle.std.specs.Prelude.{ℕ, ◌+◌, ◌≤◌, ◌<◌, ◌^◌, ◌≡◌, Bool, true, List, length, Option}
 use Rattle.paging.specs.Buffer.{buffer_ok}
 use Rattle.mmu.specs.Translates.{Kept}
 use Rattle.walk.specs.Directory.{Directory}
 use Rattle.rules.specs.declared.Key.{Key}
 use Rattle.rules.specs.declared.Machine.{Machine}
-use Rattle.rules.specs.declared.Next.{Next}
 use Rattle.rules.specs.declared.Stop.TheVariants.{Running}
 use Rattle.rules.specs.Clock.{next_of}
 use Rattle.rules.specs.Step.{State}
@@ -39,7 +38,7 @@ pub record Able (g : UnderWay) (size : ℕ) : Type 0 where
   pub steps : g.ran.steps ≤ g.ran.machine.cpu.regs.count
 
 -- the run g went on to r, with the next key: at least one step was made, and the outcome is kept
-pub record Proceeds (g : UnderWay) (next : Next) (mem con : List ℕ) (r : UnderWay) (mem' con' : List ℕ) : Type 0 where
+pub record Proceeds (g : UnderWay) (next : Option Key) (mem con : List ℕ) (r : UnderWay) (mem' con' : List ℕ) : Type 0 where
   pub able : 0 < r.left → Able r (length mem')
   pub less : r.left < g.left
   pub answer : r.ran.answer ≡ g.ran.answer

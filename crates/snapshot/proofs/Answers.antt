@@ -1,4 +1,5 @@
 -- Document 02, item 5: what an accepted save and an accepted read tell: no test refused them.
+use Rattle.std.proofs.Common.{Result, Ok, Err}
 use Prim.Native.Nat.{ℕ, ◌*◌, ◌/◌, ◌%◌, ◌^◌, ◌≤◌, ◌<◌}
 use native.Mathlib.Omega.{arith}
 use mathlib.Core.Bool.{Bool, true, false, ◌&&◌}
@@ -17,10 +18,8 @@ use Rattle.refusals.proofs.Slots.{first_length}
 use Rattle.encoding.specs.Entries.{entries_in, rights_ok}
 use Rattle.machine_file.specs.Layout.{header_bytes, page_bytes, entries_at, memory_at, length_by, counts_of}
 use Rattle.machine_file.specs.Judged.{counts_in, numbers_in, cpu_in, header_ok, counts_ok, offsets_ok, length_ok, numbers_ok, record_ok}
-use Rattle.snapshot.specs.declared.SaveAnswer.{SaveAnswer}
-use Rattle.snapshot.specs.declared.SaveAnswer.TheVariants.{Accepted as Saves, BadSize as S1, BadRegisters as S2, BadBuffer as S3, BadConsole as S5, ShortFile as S13, BadOffset as S15}
-use Rattle.snapshot.specs.declared.ReadAnswer.{ReadAnswer}
-use Rattle.snapshot.specs.declared.ReadAnswer.TheVariants.{Accepted as Reads, BadSize as R1, ShortFile as R13, BadCounts as R14, BadOffsets as R15, BadRecord as R16}
+use Rattle.snapshot.specs.declared.SaveRefusal.{SaveRefusal}
+use Rattle.snapshot.specs.declared.ReadRefusal.{ReadRefusal}
 use Rattle.snapshot.specs.Saving.{save_number, first_save_refusal, save_answer, save_by, save}
 use Rattle.snapshot.specs.Reading.{read_number, first_read_refusal, read_answer, read_by, read}
 
@@ -46,16 +45,11 @@ held_few m size e =
 
 -- ---- saving
 
-save_answer_lem : (a : SaveAnswer) (m : Machine) (mem con file : List ℕ) → (save_by a m mem con file).answer ≡ a
-save_answer_lem Saves m mem con file = refl
-save_answer_lem S1 m mem con file = refl
-save_answer_lem S2 m mem con file = refl
-save_answer_lem S3 m mem con file = refl
-save_answer_lem S5 m mem con file = refl
-save_answer_lem S13 m mem con file = refl
-save_answer_lem S15 m mem con file = refl
+save_answer_lem : (a : Result Unit SaveRefusal) (m : Machine) (mem con file : List ℕ) → (save_by a m mem con file).answer ≡ a
+save_answer_lem (Ok tt) m mem con file = refl
+save_answer_lem (Err e) m mem con file = refl
 
-pub save_tests : (size registers buffer console room offset : Bool) → first_save_refusal size registers buffer console room offset ≡ Saves
+pub save_tests : (size registers buffer console room offset : Bool) → first_save_refusal size registers buffer console room offset ≡ Ok tt
     → (size ≡ true) × (registers ≡ true) × (buffer ≡ true) × (console ≡ true) × (room ≡ true) × (offset ≡ true)
 save_tests true true true true true true e = (refl, refl, refl, refl, refl, refl)
 save_tests true true true true true false e = absurd (omega (arith, ap save_number e))
@@ -66,7 +60,7 @@ save_tests true false buffer console room offset e = absurd (omega (arith, ap sa
 save_tests false registers buffer console room offset e = absurd (omega (arith, ap save_number e))
 
 pub record SaveAccepted (m : Machine) (mem con file : List ℕ) : Type 0 where
-  pub answer : save_answer m (length mem) (length con) (length file) ≡ Saves
+  pub answer : save_answer m (length mem) (length con) (length file) ≡ Ok tt
   pub size : size_ok (length mem) ≡ true
   pub registers : registers_ok (length mem) m.cpu ≡ true
   pub buffer : buffer_ok (length mem) (entries_of m) ≡ true
@@ -74,7 +68,7 @@ pub record SaveAccepted (m : Machine) (mem con file : List ℕ) : Type 0 where
   pub room : length_by (counts_of m (length mem)) ≤ length file
   pub offset : memory_at (counts_of m (length mem)) < 2 ^ 32
 
-pub save_told : (m : Machine) (mem con file : List ℕ) → save_answer m (length mem) (length con) (length file) ≡ Saves → SaveAccepted m mem con file
+pub save_told : (m : Machine) (mem con file : List ℕ) → save_answer m (length mem) (length con) (length file) ≡ Ok tt → SaveAccepted m mem con file
 unfolding save_answer
 save_told m mem con file a =
     let k = counts_of m (length mem) in
@@ -90,22 +84,18 @@ save_told m mem con file a =
       offset = ltb-true (memory_at k) (2 ^ 32) t.5;
     }
 
-pub save_accepts : (m : Machine) (mem con file : List ℕ) → (save m mem con file).answer ≡ Saves → SaveAccepted m mem con file
+pub save_accepts : (m : Machine) (mem con file : List ℕ) → (save m mem con file).answer ≡ Ok tt → SaveAccepted m mem con file
 unfolding save
 save_accepts m mem con file e =
     save_told m mem con file (sym (save_answer_lem (save_answer m (length mem) (length con) (length file)) m mem con file) ∙ e)
 
 -- ---- reading
 
-read_answer_lem : (a : ReadAnswer) (file mem con : List ℕ) → (read_by a file mem con).answer ≡ a
-read_answer_lem Reads file mem con = refl
-read_answer_lem R1 file mem con = refl
-read_answer_lem R13 file mem con = refl
-read_answer_lem R14 file mem con = refl
-read_answer_lem R15 file mem con = refl
-read_answer_lem R16 file mem con = refl
+read_answer_lem : (a : Result Unit ReadRefusal) (file mem con : List ℕ) → (read_by a file mem con).answer ≡ a
+read_answer_lem (Ok tt) file mem con = refl
+read_answer_lem (Err e) file mem con = refl
 
-read_tests : (size header counts offsets registers : Bool) → first_read_refusal size header counts offsets registers ≡ Reads
+read_tests : (size header counts offsets registers : Bool) → first_read_refusal size header counts offsets registers ≡ Ok tt
     → (size ≡ true) × (header ≡ true) × (counts ≡ true) × (offsets ≡ true) × (registers ≡ true)
 read_tests true true true true true e = (refl, refl, refl, refl, refl)
 read_tests true true true true false e = absurd (omega (arith, ap read_number e))
@@ -115,7 +105,7 @@ read_tests true false counts offsets registers e = absurd (omega (arith, ap read
 read_tests false header counts offsets registers e = absurd (omega (arith, ap read_number e))
 
 pub record ReadAccepted (file mem con : List ℕ) : Type 0 where
-  pub answer : read_answer file (length mem) (length con) ≡ Reads
+  pub answer : read_answer file (length mem) (length con) ≡ Ok tt
   pub size : size_ok (length mem) ≡ true
   pub header : header_bytes ≤ length file
   pub pages : (counts_in file).pages * page_bytes ≡ length mem
@@ -128,7 +118,7 @@ pub record ReadAccepted (file mem con : List ℕ) : Type 0 where
   pub registers : registers_ok (length mem) (cpu_in file (counts_in file)) ≡ true
   pub buffer : buffer_ok (length mem) (entries_in (counts_in file).entries file entries_at) ≡ true
 
-pub read_told : (file mem con : List ℕ) → read_answer file (length mem) (length con) ≡ Reads → ReadAccepted file mem con
+pub read_told : (file mem con : List ℕ) → read_answer file (length mem) (length con) ≡ Ok tt → ReadAccepted file mem con
 unfolding read_answer counts_ok record_ok
 read_told file mem con a =
     let k = counts_in file in
@@ -155,6 +145,6 @@ read_told file mem con a =
       buffer = buffer.1;
     }
 
-pub read_accepts : (file mem con : List ℕ) → (read file mem con).answer ≡ Reads → ReadAccepted file mem con
+pub read_accepts : (file mem con : List ℕ) → (read file mem con).answer ≡ Ok tt → ReadAccepted file mem con
 unfolding read
 read_accepts file mem con e = read_told file mem con (sym (read_answer_lem (read_answer file (length mem) (length con)) file mem con) ∙ e)

@@ -1,7 +1,11 @@
 -- Document 02, item 5: a save by what its parts ensure: the answer decides whether the file is written, its blocks one after another.
-use Prim.Native.Nat.{ℕ, ◌+◌, ◌*◌, ◌≤◌}
+use Rattle.std.specs.Result.{is_err}
+use Rattle.executable.proofs.Accepted.{unrefused}
+use Rattle.std.proofs.Common.{Result, Ok, Err}
+use Prim.Native.Nat.{ℕ, ◌*◌, ◌≤◌}
 use native.Mathlib.Omega.{arith}
 use mathlib.Core.List.{List, ◌++◌}
+use mathlib.Core.Bool.{Bool, true, false, false≢true}
 use mathlib.Core.Path.{◌≡◌, refl, sym, ◌∙◌, ap, subst}
 use lib.ListN.{length, take, drop, take-append-drop}
 use lib.Seq.{length-take-le}
@@ -10,94 +14,85 @@ use Rattle.rules.specs.Numbers.{numbers_of}
 use Rattle.refusals.specs.View.{entries_of}
 use Rattle.refusals.proofs.Slots.{first_take}
 use Rattle.text.specs.Written.{Written}
-use Rattle.text.proofs.Laws.{written_then, written_as}
+use Rattle.text.specs.declared.Writer.{Writer}
+use Rattle.text.specs.Adds.{Adds, Room}
+use Rattle.text.proofs.Laws.{adds_then, adds_as}
 use Rattle.encoding.specs.Encoding.{encoded}
 use Rattle.encoding.specs.Entries.{entry_bytes, encoded_entries}
 use Rattle.machine_file.specs.declared.Counts.{Counts}
 use Rattle.machine_file.specs.Layout.{header_longs, register_longs, header_bytes, register_bytes, entries_at, console_at, header_of, length_by, counts_of, file_of, Small}
 use Rattle.machine_file.proofs.Lengths.{length-header, length-registers, length-entries, length-file}
-use Rattle.snapshot.specs.declared.SaveAnswer.{SaveAnswer}
-use Rattle.snapshot.specs.declared.SaveAnswer.TheVariants.{Accepted, BadSize, BadRegisters, BadBuffer, BadConsole, ShortFile, BadOffset}
-use Rattle.snapshot.specs.declared.Saved.{Saved as Result}
+use Rattle.snapshot.specs.declared.SaveRefusal.{SaveRefusal}
+use Rattle.snapshot.specs.declared.Saved.{Saved as SavedResult}
 use Rattle.snapshot.specs.Saving.{Saved, save_number, save_answer, save_by, save}
 use Rattle.snapshot.specs.Contract.{saved_with, SavesAs, Savable}
 use Rattle.snapshot.proofs.Answers.{size_most, whole_pages, SaveAccepted, save_told, held_few}
 
 -- ---- the blocks, one after another
 
-module _ {m : Machine} {mem con file : List ℕ} (s : Savable m mem con file) {k : Counts} (c : k ≡ counts_of m (length mem)) where
-  pub header_room : Small k × (header_bytes ≤ length file)
-  header_room = (subst (λ (x : Counts). Small x) (sym c) s.small, omega (arith, s.room))
+module _ {m : Machine} {mem con file : List ℕ} (s : Savable m mem con file) {k : Counts} (c : k ≡ counts_of m (length mem))
+    (w₀ : Writer) (start : (w₀.bytes.now ≡ file) × (w₀.end ≡ 0)) where
+  lent : length w₀.bytes.now ≡ length file
+  lent = ap length start.0
 
-  module _ {f₁ : List ℕ} {p₁ : ℕ} (w₁ : Written (encoded header_longs (header_of k)) file 0 f₁ p₁) (l₁ : length f₁ ≡ length file) where
-    place₁ : p₁ ≡ header_bytes
-    place₁ = w₁.end ∙ omega (arith, length-header k)
+  pub header_room : Small k × Room header_bytes w₀
+  header_room = (subst (λ (x : Counts). Small x) (sym c) s.small, omega (arith, s.room, lent, start.1))
 
-    pub registers_room : p₁ + register_bytes ≤ length f₁
-    registers_room = omega (arith, s.room, place₁)
+  module _ {w₁ : Writer} (a₁ : Adds (encoded header_longs (header_of k)) w₀ w₁) where
+    place₁ : w₁.end ≡ header_bytes
+    place₁ = a₁.written.end ∙ omega (arith, length-header k, start.1)
 
-    module _ {f₂ : List ℕ} {p₂ : ℕ} (w₂ : Written (encoded register_longs (numbers_of m.cpu)) f₁ p₁ f₂ p₂) (l₂ : length f₂ ≡ length f₁) where
-      place₂ : p₂ ≡ entries_at
-      place₂ = w₂.end ∙ omega (arith, place₁, length-registers m.cpu)
+    pub registers_room : Room register_bytes w₁
+    registers_room = omega (arith, s.room, place₁, a₁.size, lent)
 
-      pub entries_room : (m.held ≤ 64) × (p₂ + entry_bytes * m.held ≤ length f₂)
-      entries_room = (s.few, omega (arith, s.room, place₂))
+    module _ {w₂ : Writer} (a₂ : Adds (encoded register_longs (numbers_of m.cpu)) w₁ w₂) where
+      place₂ : w₂.end ≡ entries_at
+      place₂ = a₂.written.end ∙ omega (arith, place₁, length-registers m.cpu)
 
-      module _ (z : length m.entries ≡ 64) {f₃ : List ℕ} {p₃ : ℕ} (w₃ : Written (encoded_entries (take m.held m.entries)) f₂ p₂ f₃ p₃)
-          (l₃ : length f₃ ≡ length f₂) where
-        counted : Written (encoded_entries (entries_of m)) f₂ p₂ f₃ p₃
-        counted = written_as (ap encoded_entries (sym (first_take m.held m.entries (omega (arith, s.few, z))))) w₃
+      pub entries_room : (m.held ≤ 64) × Room (entry_bytes * m.held) w₂
+      entries_room = (s.few, omega (arith, s.room, place₂, a₂.size, a₁.size, lent))
 
-        place₃ : p₃ ≡ console_at (counts_of m (length mem))
-        place₃ = counted.end ∙ omega (arith, place₂, length-entries m)
+      module _ (z : length m.entries ≡ 64) {w₃ : Writer} (a₃ : Adds (encoded_entries (take m.held m.entries)) w₂ w₃) where
+        counted : Adds (encoded_entries (entries_of m)) w₂ w₃
+        counted = adds_as (ap encoded_entries (sym (first_take m.held m.entries (omega (arith, s.few, z))))) a₃
 
-        pub console_room : p₃ + length (take m.cpu.written con) ≤ length f₃
-        console_room = omega (arith, s.room, place₃, length-take-le m.cpu.written con s.written)
+        place₃ : w₃.end ≡ console_at (counts_of m (length mem))
+        place₃ = counted.written.end ∙ omega (arith, place₂, length-entries m)
 
-        module _ {f₄ : List ℕ} {p₄ : ℕ} (w₄ : Written (take m.cpu.written con) f₃ p₃ f₄ p₄) (l₄ : length f₄ ≡ length f₃) where
-          pub memory_room : p₄ + length mem ≤ length f₄
-          memory_room = omega (arith, s.room, s.whole, place₃, length-take-le m.cpu.written con s.written, w₄.end)
+        pub console_room : Room (length (take m.cpu.written con)) w₃
+        console_room = omega (arith, s.room, place₃, length-take-le m.cpu.written con s.written, a₃.size, a₂.size, a₁.size, lent)
 
-          pub all_written : {f₅ : List ℕ} {p₅ : ℕ} → Written mem f₄ p₄ f₅ p₅ → Written (file_of m mem con) file 0 f₅ p₅
+        module _ {w₄ : Writer} (a₄ : Adds (take m.cpu.written con) w₃ w₄) where
+          pub memory_room : Room (length mem) w₄
+          memory_room =
+              omega (arith, s.room, s.whole, place₃, length-take-le m.cpu.written con s.written, a₄.written.end, a₄.size, a₃.size, a₂.size, a₁.size, lent)
+
+          pub all_added : {w₅ : Writer} → Adds mem w₄ w₅ → Adds (file_of m mem con) w₀ w₅
           unfolding file_of
-          all_written {f₅} {p₅} w₅ =
+          all_added {w₅} a₅ =
               let blocks = encoded register_longs (numbers_of m.cpu) ++ encoded_entries (entries_of m) ++ take m.cpu.written con ++ mem in
-              subst (λ (x : Counts). Written (encoded header_longs (header_of x) ++ blocks) file 0 f₅ p₅) c
-              (written_then (written_then (written_then (written_then w₁ w₂) counted) w₄) w₅)
+              subst (λ (x : Counts). Adds (encoded header_longs (header_of x) ++ blocks) w₀ w₅) c
+              (adds_then (adds_then (adds_then (adds_then a₁ a₂) counted) a₄) a₅)
 
 -- ---- the whole
 
 -- what is saved by any other answer
-refused_by_lem : (a : SaveAnswer) (m : Machine) (mem con file : List ℕ) → (save_number a ≡ 0 → ⊥) → saved_with (record { answer = a; length = 0 }) file ≡ save_by a m mem con file
-refused_by_lem Accepted m mem con file n = absurd (n refl)
-refused_by_lem BadSize m mem con file n = refl
-refused_by_lem BadRegisters m mem con file n = refl
-refused_by_lem BadBuffer m mem con file n = refl
-refused_by_lem BadConsole m mem con file n = refl
-refused_by_lem ShortFile m mem con file n = refl
-refused_by_lem BadOffset m mem con file n = refl
+refused_by_lem : (a : Result Unit SaveRefusal) (m : Machine) (mem con file : List ℕ) → is_err a ≡ true → saved_with (record { answer = a; length = 0 }) file ≡ save_by a m mem con file
+refused_by_lem (Ok tt) m mem con file h = absurd (false≢true h)
+refused_by_lem (Err e) m mem con file h = refl
 
 -- a save as the rules have it answers with their number
-as_ruled : (m : Machine) (mem con file : List ℕ) (r : Result) {file' : List ℕ} → saved_with r file' ≡ save m mem con file → SavesAs m mem con file r file'
+as_ruled : (m : Machine) (mem con file : List ℕ) (r : SavedResult) {file' : List ℕ} → saved_with r file' ≡ save m mem con file → SavesAs m mem con file r file'
 as_ruled m mem con file r e = record { number = ap (λ (s : Saved). save_number s.answer) e; same = e }
 
-accepting : (a : SaveAnswer) → save_number a ≡ 0 → a ≡ Accepted
-accepting Accepted e = refl
-accepting BadSize e = absurd (omega (arith, e))
-accepting BadRegisters e = absurd (omega (arith, e))
-accepting BadBuffer e = absurd (omega (arith, e))
-accepting BadConsole e = absurd (omega (arith, e))
-accepting ShortFile e = absurd (omega (arith, e))
-accepting BadOffset e = absurd (omega (arith, e))
-
-module _ (m : Machine) (mem con file : List ℕ) {a : SaveAnswer} {n : ℕ} (p : a ≡ save_answer m (length mem) (length con) (length file)) (q : n ≡ save_number a) where
-  pub refused : (n ≡ 0 → ⊥) → SavesAs m mem con file (record { answer = a; length = 0 }) file
+module _ (m : Machine) (mem con file : List ℕ) {a : Result Unit SaveRefusal} {b : Bool} (p : a ≡ save_answer m (length mem) (length con) (length file)) (q : b ≡ is_err a) where
+  pub refused : b ≡ true → SavesAs m mem con file (record { answer = a; length = 0 }) file
   unfolding save
-  refused l = as_ruled m mem con file (record { answer = a; length = 0 }) (rw (← p) (refused_by_lem a m mem con file (λ z. l (q ∙ z))))
+  refused h = as_ruled m mem con file (record { answer = a; length = 0 }) (rw (← p) (refused_by_lem a m mem con file (sym q ∙ h)))
 
-  module _ (z : n ≡ 0) where
+  module _ (z : b ≡ false) where
     accepts : SaveAccepted m mem con file
-    accepts = save_told m mem con file (sym p ∙ accepting a (sym q ∙ z))
+    accepts = save_told m mem con file (sym p ∙ unrefused a (sym q ∙ z))
 
     pub savable : Savable m mem con file
     savable =
@@ -119,4 +114,4 @@ module _ (m : Machine) (mem con file : List ℕ) {a : SaveAnswer} {n : ℕ} (p :
         let e : r ≡ length_by (counts_of m (length mem)) = w.end ∙ omega (arith, length-file m mem con s.written s.whole) in
         let f : file' ≡ file_of m mem con ++ drop (length_by (counts_of m (length mem))) file =
         sym (take-append-drop r file') ∙ rw (w.front, w.rest, e) in
-        as_ruled m mem con file (record { answer = a; length = r }) (rw (← p, accepting a (sym q ∙ z), e, f))
+        as_ruled m mem con file (record { answer = a; length = r }) (rw (← p, unrefused a (sym q ∙ z), e, f))

@@ -15,125 +15,113 @@ use machine_file::layout::{
 };
 use machine_file::registers::{machine_at, put_registers, record_ok};
 use rules::Machine;
+use text::Writer;
 
-// What saving answers.
-#[derive(Clone, Copy)]
-pub enum SaveAnswer {
-    Accepted,
-    BadSize,
-    BadRegisters,
-    BadBuffer,
-    BadConsole,
-    // The lent file is shorter than the result.
-    ShortFile,
-    // An offset of 2^32 or more.
-    BadOffset,
+// Why a save is refused, by number.
+#[derive(Clone, Copy, Debug, PartialEq, Eq)]
+pub enum SaveRefusal {
+    BadSize = 1,
+    BadRegisters = 2,
+    BadBuffer = 3,
+    BadConsole = 5,
+    ShortFile = 13, // shorter than the result
+    BadOffset = 15, // of 2^32 or more
 }
 
-// What reading answers.
-#[derive(Clone, Copy)]
-pub enum ReadAnswer {
-    Accepted,
-    BadSize,
-    // The file is shorter than its header.
-    ShortFile,
-    BadCounts,
-    // An offset or the length does not follow from the counts.
-    BadOffsets,
-    BadRecord,
+// Why a read is refused, by number.
+#[derive(Clone, Copy, Debug, PartialEq, Eq)]
+pub enum ReadRefusal {
+    BadSize = 1,
+    ShortFile = 13, // shorter than its header
+    BadCounts = 14,
+    BadOffsets = 15, // one of them, or the length, does not follow from the counts
+    BadRecord = 16,
 }
 
 // What saving gives beside the file: its answer, and the file's length, 0 when refused.
 #[derive(Clone, Copy)]
 pub struct Saved {
-    pub answer: SaveAnswer,
+    // Beside the length, which a refused save gives too: `SavesAs`.
+    pub answer: Result<(), SaveRefusal>,
     pub length: usize,
 }
 
 // What reading gives beside memory and console: its answer, and the record.
 #[derive(Clone, Copy)]
 pub struct Restored {
-    pub answer: ReadAnswer,
+    // Beside the record, which a refused read gives too: `ReadsAs` says that it is all zero.
+    pub answer: Result<(), ReadRefusal>,
     pub machine: Machine,
 }
 
-// The number of an answer.
-pub fn save_number(a: SaveAnswer) -> u32
+// The number of an answer, 0 of an accepted save.
+pub fn save_number(a: Result<(), SaveRefusal>) -> u32
     ensures { result ≡ save_number a }
 {
     match a {
-        SaveAnswer::Accepted => 0,
-        SaveAnswer::BadSize => 1,
-        SaveAnswer::BadRegisters => 2,
-        SaveAnswer::BadBuffer => 3,
-        SaveAnswer::BadConsole => 5,
-        SaveAnswer::ShortFile => 13,
-        SaveAnswer::BadOffset => 15,
+        Ok(()) => 0,
+        Err(refusal) => refusal as u32,
     }
 }
 
-// The number of an answer.
-pub fn read_number(a: ReadAnswer) -> u32
+// The number of an answer, 0 of an accepted read.
+pub fn read_number(a: Result<(), ReadRefusal>) -> u32
     ensures { result ≡ read_number a }
 {
     match a {
-        ReadAnswer::Accepted => 0,
-        ReadAnswer::BadSize => 1,
-        ReadAnswer::ShortFile => 13,
-        ReadAnswer::BadCounts => 14,
-        ReadAnswer::BadOffsets => 15,
-        ReadAnswer::BadRecord => 16,
+        Ok(()) => 0,
+        Err(refusal) => refusal as u32,
     }
 }
 
 // The first refusal that holds of a save, or its acceptance, by the lengths of what is lent.
-fn judge_save(m: Machine, size: usize, capacity: usize, room: usize) -> SaveAnswer
+fn judge_save(m: Machine, size: usize, capacity: usize, room: usize) -> Result<(), SaveRefusal>
     requires { capacity < 2 ^ 63 }
     ensures { result ≡ save_answer m size capacity room }
 {
     if !memory::size_ok(size) {
-        return SaveAnswer::BadSize;
+        return Err(SaveRefusal::BadSize);
     }
     if !refusals::registers_ok(size, m.cpu) {
-        return SaveAnswer::BadRegisters;
+        return Err(SaveRefusal::BadRegisters);
     }
     if !refusals::slots_ok(m, size) {
-        return SaveAnswer::BadBuffer;
+        return Err(SaveRefusal::BadBuffer);
     }
     if capacity < m.cpu.written {
-        return SaveAnswer::BadConsole;
+        return Err(SaveRefusal::BadConsole);
     }
     let k = counts_of(m, size);
     if room < length_by(k) {
-        return SaveAnswer::ShortFile;
+        return Err(SaveRefusal::ShortFile);
     }
     if memory_at(k) >= 0x1_0000_0000 {
-        return SaveAnswer::BadOffset;
+        return Err(SaveRefusal::BadOffset);
     }
-    SaveAnswer::Accepted
+    Ok(())
 }
 
 // The first refusal that holds of a read, or its acceptance, for memory and console of these sizes.
-pub fn judge_read(file: &[u8], size: usize, capacity: usize) -> ReadAnswer
+pub fn judge_read(file: &[u8], size: usize, capacity: usize) -> Result<(), ReadRefusal>
     ensures { result ≡ read_answer file.now size capacity }
 {
     if !memory::size_ok(size) {
-        return ReadAnswer::BadSize;
+        return Err(ReadRefusal::BadSize);
     }
     if file.len() < HEADER {
-        return ReadAnswer::ShortFile;
+        return Err(ReadRefusal::ShortFile);
     }
     let k = counts_at(file);
     if !counts_ok(size, capacity, k) {
-        return ReadAnswer::BadCounts;
+        return Err(ReadRefusal::BadCounts);
     }
     if !(offsets_ok(file, k) & length_ok(file.len(), k)) {
-        return ReadAnswer::BadOffsets;
+        return Err(ReadRefusal::BadOffsets);
     }
     if !record_ok(size, file, k) {
-        return ReadAnswer::BadRecord;
+        return Err(ReadRefusal::BadRecord);
     }
-    ReadAnswer::Accepted
+    Ok(())
 }
 
 // All blocks, one after another. The result is the length.
@@ -141,13 +129,13 @@ fn write(m: Machine, memory: &[u8], console: &[u8], file: &mut [u8]) -> usize
     requires { Savable m memory.now console.now file.old }
     ensures { Written (file_of m memory.now console.now) file.old 0 file.new result }
 {
-    let cpu = m.cpu;
-    let slots = m.entries;
-    let end = put_header(file, counts_of(m, memory.len()));
-    let end = put_registers(file, end, cpu);
-    let end = encoding::put_entries(file, end, slots, m.held);
-    let end = text::put(file, end, &console[..cpu.written]);
-    text::put(file, end, memory)
+    let mut out = Writer::new(file);
+    put_header(&mut out, counts_of(m, memory.len()));
+    put_registers(&mut out, m.cpu);
+    encoding::put_entries(&mut out, m.entries, m.held);
+    out.put(&console[..m.cpu.written]);
+    out.put(memory);
+    out.end()
 }
 
 // A machine is saved, or refused: then the file keeps its bytes.
@@ -155,7 +143,7 @@ pub fn save(m: Machine, memory: &[u8], console: &[u8], file: &mut [u8]) -> Saved
     ensures { SavesAs m memory.now console.now file.old result file.new }
 {
     let answer = judge_save(m, memory.len(), console.len(), file.len());
-    if save_number(answer) != 0 {
+    if answer.is_err() {
         return Saved { answer, length: 0 };
     }
     let length = write(m, memory, console, file);
@@ -169,8 +157,8 @@ fn unpack(file: &[u8], k: Counts, memory: &mut [u8], console: &mut [u8])
 {
     let from = console_at(k);
     let to = memory_at(k);
-    text::put(console, 0, &file[from..to]);
-    text::put(memory, 0, &file[to..]);
+    console[..k.console].copy_from_slice(&file[from..to]);
+    memory.copy_from_slice(&file[to..]);
 }
 
 // A file is read, or refused: then memory and console keep their bytes.
@@ -178,7 +166,7 @@ pub fn read(file: &[u8], memory: &mut [u8], console: &mut [u8]) -> Restored
     ensures { ReadsAs file.now memory.old console.old result memory.new console.new }
 {
     let answer = judge_read(file, memory.len(), console.len());
-    if read_number(answer) != 0 {
+    if answer.is_err() {
         return Restored {
             answer,
             machine: loader::empty_machine(loader::cpu_with(0, 0, 0)),

@@ -1,9 +1,8 @@
 -- Document 02, items 5 and 7: a machine in the new mode and its file, byte by byte up to memory. Every number of the record is another, so that a wrong order or
 -- width shows.
-use Rattle.std.specs.Prelude.{ℕ, true, false, List, [], ◌∷◌, ◌≡◌, refl, take, drop, replicate}
+use Rattle.std.specs.Prelude.{ℕ, true, false, List, [], ◌∷◌, ◌≡◌, refl, take, drop, replicate, Some}
 use Rattle.paging.specs.declared.Cause.TheVariants.{NoWriteRight}
 use Rattle.rules.specs.declared.Cpu.{Cpu}
-use Rattle.rules.specs.declared.LastCause.TheVariants.{Of}
 use Rattle.rules.specs.declared.Machine.{Machine}
 use Rattle.rules.specs.declared.Stop.TheVariants.{Masked}
 use Rattle.rules.specs.Load.{zero_entry}
@@ -22,7 +21,7 @@ cpu = record {
   vadr = 0x1004;
   space = record { pdir = 0; paging = true };
   system = record { usp = 0x28; ksp = 0x38; ivec = 0x2c; user = false; iena = true; waiting = false };
-  cause = Of NoWriteRight;
+  cause = Some NoWriteRight;
   stop = Masked;
   written = 3;
   model = record { doubles = true };

@@ -15,6 +15,7 @@ use Rattle.paging.specs.declared.Entry.{Entry}
 use Rattle.rules.specs.Arithmetic.{flag}
 use Rattle.rules.specs.Numbers.{flag_of}
 use Rattle.rules.proofs.RecordNumbers.{flag_read}
+use Rattle.encoding.specs.declared.Width.{Width}
 use Rattle.encoding.specs.Encoding.{width, widths, little_endian, encoded, decoded, Fitting}
 use Rattle.encoding.specs.Entries.{entry_longs, entry_bytes, entry_numbers, encoded_entries, entry_in, entries_in, rights_are, rights_ok}
 use Rattle.encoding.proofs.Numbers.{length-little_endian}
@@ -66,7 +67,7 @@ little_back (suc n) f at b h =
 -- ---- numbers
 
 -- numbers that stand at a place are read
-pub decoded_standing : (ls : List Bool) (vs f : List ℕ) (at : ℕ) (rest : List ℕ) → Fitting ls vs → length vs ≡ length ls → drop at f ≡ encoded ls vs ++ rest
+pub decoded_standing : (ls : List Width) (vs f : List ℕ) (at : ℕ) (rest : List ℕ) → Fitting ls vs → length vs ≡ length ls → drop at f ≡ encoded ls vs ++ rest
     → decoded ls f at ≡ vs
 unfolding decoded encoded Fitting
 decoded_standing [] [] f at rest p k e = refl
@@ -80,7 +81,7 @@ decoded_standing (l ∷ ls) (v ∷ vs) f at rest p k e =
     λ i. load_standing f at w v (encoded ls vs ++ rest) p.0 s i ∷ decoded_standing ls vs f (at + w) rest p.1 (omega (arith, k)) t i
 
 -- and back
-pub encoded_back : (ls : List Bool) (f : List ℕ) (at : ℕ) → Bytes f → at + widths ls ≤ length f → encoded ls (decoded ls f at) ≡ take (widths ls) (drop at f)
+pub encoded_back : (ls : List Width) (f : List ℕ) (at : ℕ) → Bytes f → at + widths ls ≤ length f → encoded ls (decoded ls f at) ≡ take (widths ls) (drop at f)
 unfolding decoded encoded widths
 encoded_back [] f at b h = refl
 encoded_back (l ∷ ls) f at b h =

@@ -1,4 +1,5 @@
 -- Document 02, item 5: "an accepted file saves back to the same bytes". Each block of the file is what is written of what was read from it.
+use Rattle.std.proofs.Common.{Result, Ok}
 use Prim.Native.Nat.{ℕ, zero, suc, ◌*◌, ◌/◌, ◌^◌, ◌≤◌, ◌<◌}
 use native.Mathlib.Nat.{pow-suc}
 use native.Mathlib.Omega.{arith}
@@ -22,10 +23,8 @@ use Rattle.machine_file.specs.declared.Counts.{Counts}
 use Rattle.machine_file.specs.Layout.{header_longs, register_longs, header_bytes, register_bytes, page_bytes, registers_at, entries_at, console_at, memory_at, length_by, header_of, counts_of, file_of}
 use Rattle.machine_file.proofs.Counted.{counted}
 use Rattle.machine_file.specs.Judged.{counts_in, numbers_in, cpu_in, machine_in, console_in, memory_in, offsets_ok}
-use Rattle.snapshot.specs.declared.SaveAnswer.{SaveAnswer}
-use Rattle.snapshot.specs.declared.SaveAnswer.TheVariants as saves
-use Rattle.snapshot.specs.declared.ReadAnswer.{ReadAnswer}
-use Rattle.snapshot.specs.declared.ReadAnswer.TheVariants as reads
+use Rattle.snapshot.specs.declared.SaveRefusal.{SaveRefusal}
+use Rattle.snapshot.specs.declared.ReadRefusal.{ReadRefusal}
 use Rattle.snapshot.specs.Saving.{first_save_refusal, save_answer, save_by, save}
 use Rattle.snapshot.specs.Reading.{Restored, read_by, read}
 use Rattle.snapshot.proofs.Answers.{ReadAccepted, read_accepts}
@@ -40,7 +39,7 @@ load_below zero f at b = omega arith
 load_below (suc n) f at b = rw (pow-suc 256 n) (let h = load_below n f (suc at) b in let l = b at in omega (arith, h, l))
 
 pub save_passes : {size registers buffer console room offset : Bool} → size ≡ true → registers ≡ true → buffer ≡ true → console ≡ true → room ≡ true → offset ≡ true
-    → first_save_refusal size registers buffer console room offset ≡ saves.Accepted
+    → first_save_refusal size registers buffer console room offset ≡ Ok tt
 save_passes p q r s t u = rw (p, q, r, s, t, u)
 
 -- ---- what an accepted read gives
@@ -58,9 +57,9 @@ module _ (file mem con : List ℕ) (a : ReadAccepted file mem con) where
   abbrev console : List ℕ
   console = console_in file k ++ drop k.console con
 
-  pub gives : read file mem con ≡ record { answer = reads.Accepted; machine = machine; mem = memory; console = console }
+  pub gives : read file mem con ≡ record { answer = Ok tt; machine = machine; mem = memory; console = console }
   unfolding read
-  gives = ap (λ (x : ReadAnswer). read_by x file mem con) a.answer
+  gives = ap (λ (x : Result Unit ReadRefusal). read_by x file mem con) a.answer
 
   pub length-memory : length memory ≡ length mem
   length-memory = length-drop (memory_at k) file ∙ omega (arith, a.total, a.pages)
@@ -138,19 +137,19 @@ module _ (file mem con : List ℕ) (a : ReadAccepted file mem con) where
     -- ---- the whole
 
     module _ (lent : List ℕ) (room : length file ≤ length lent) where
-      answer_again : save_answer machine (length memory) (length console) (length lent) ≡ saves.Accepted
+      answer_again : save_answer machine (length memory) (length console) (length lent) ≡ Ok tt
       unfolding save_answer
       answer_again =
           save_passes (ap size_ok length-memory ∙ a.size) registers_again buffer_again (le-leb machine.cpu.written (length console) console_again)
           (ap (λ (x : Counts). leb (length_by x) (length lent)) counts_back ∙ le-leb (length_by k) (length lent) (omega (arith, a.total, room)))
           (ap (λ (x : Counts). ltb (memory_at x) (2 ^ 32)) counts_back ∙ lt-ltb (memory_at k) (2 ^ 32) offset.0)
 
-      saved_again : save machine memory console lent ≡ record { answer = saves.Accepted; length = length file; file = file ++ drop (length file) lent }
+      saved_again : save machine memory console lent ≡ record { answer = Ok tt; length = length file; file = file ++ drop (length file) lent }
       unfolding save
       saved_again =
           let l : length_by (counts_of machine (length memory)) ≡ length file = ap length_by counts_back ∙ sym a.total in
-          ap (λ (x : SaveAnswer). save_by x machine memory console lent) answer_again
-          ∙ (λ i. record { answer = saves.Accepted; length = l i; file = file_back i ++ drop (l i) lent })
+          ap (λ (x : Result Unit SaveRefusal). save_by x machine memory console lent) answer_again
+          ∙ (λ i. record { answer = Ok tt; length = l i; file = file_back i ++ drop (l i) lent })
 
 pub read_saved : ReadSaved
 unfolding ReadSaved

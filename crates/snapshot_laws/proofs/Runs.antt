@@ -1,6 +1,6 @@
 -- Document 02, item 5: runs of a machine that was read: none refuses it by what the file holds; a machine that has taken no keys goes on as if it had not been
 -- saved; and demand 3, where no entries were saved.
-use Rattle.std.proofs.Common.{if◌then◌else◌}
+use Rattle.std.proofs.Common.{if◌then◌else◌, Ok, Err}
 use Prim.Native.Nat.{ℕ, ◌-◌, ◌≤◌}
 use native.Mathlib.Omega.{arith}
 use mathlib.Core.Bool.{Bool, true}
@@ -14,7 +14,7 @@ use Rattle.paging.specs.declared.Entry.{Entry}
 use Rattle.paging.specs.Translate.{buffered, reader}
 use Rattle.rules.specs.declared.Cpu.{Cpu}
 use Rattle.rules.specs.declared.Machine.{Machine}
-use Rattle.rules.specs.declared.RunAnswer.TheVariants.{Accepted, BadKeys, BadBudget}
+use Rattle.rules.specs.declared.RunRefusal.TheVariants.{BadKeys, BadBudget}
 use Rattle.rules.specs.Load.{zero_entry}
 use Rattle.rules.specs.Numbers.{record_by}
 use Rattle.rules.specs.Run.{keys_ok, budget_ok, first_refusal, run_answer, run}
@@ -37,7 +37,7 @@ use Rattle.snapshot_laws.proofs.ReadSaved.{gives, length-memory, registers_again
 -- ---- no run refuses it with 1, 2, 3 or 5
 
 run_passes : {size registers buffer console : Bool} (keys budget : Bool) → size ≡ true → registers ≡ true → buffer ≡ true → console ≡ true
-    → first_refusal size registers buffer keys console budget ≡ (if keys then (if budget then Accepted else BadBudget) else BadKeys)
+    → first_refusal size registers buffer keys console budget ≡ (if keys then (if budget then Ok tt else Err BadBudget) else Err BadKeys)
 run_passes keys budget p q r s = rw (p, q, r, s)
 
 pub read_runs : ReadRuns

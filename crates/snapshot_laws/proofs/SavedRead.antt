@@ -1,5 +1,6 @@
 -- Document 02, item 5: "Saving and reading back gives the same machine". Each block stands in the file at its offset, so that it is read as it was written; a
 -- machine that saving accepts passes the tests of reading.
+use Rattle.std.proofs.Common.{Result, Ok, Option, Some, None}
 use Prim.Native.Nat.{ℕ, ◌+◌, ◌*◌, ◌-◌, ◌/◌, ◌^◌, ◌≤◌, ◌<◌}
 use native.Mathlib.Omega.{arith}
 use mathlib.Core.Bool.{Bool, true, false, not, ◌&&◌}
@@ -11,12 +12,11 @@ use lib.ListN.{length, get_or, take, drop, replicate}
 use lib.Seq.{length-take-le, drop-drop, drop_at, take_at}
 use Rattle.word.proofs.BoolLaws.{both}
 use Rattle.memory.specs.Memory.{load_n, size_ok}
+use Rattle.paging.specs.declared.Cause.{Cause}
 use Rattle.paging.specs.declared.Cause.TheVariants.{AddressBeyondMemory, DirectoryAbsent, DirectoryBeyondMemory, TableAbsent, NoUserRight, NoWriteRight, FrameBeyondMemory}
 use Rattle.paging.specs.declared.Entry.{Entry}
 use Rattle.paging.specs.Buffer.{has, entry_page, entry_ok, entries_ok, buffer_ok}
 use Rattle.rules.specs.declared.Cpu.{Cpu}
-use Rattle.rules.specs.declared.LastCause.{LastCause}
-use Rattle.rules.specs.declared.LastCause.TheVariants.{None, Of}
 use Rattle.rules.specs.declared.Machine.{Machine}
 use Rattle.rules.specs.declared.Stop.{Stop}
 use Rattle.rules.specs.declared.Stop.TheVariants.{Running, Halted, Masked, NoFrame}
@@ -34,8 +34,7 @@ use Rattle.machine_file.specs.declared.Counts.{Counts}
 use Rattle.machine_file.specs.Layout.{header_longs, register_longs, header_bytes, register_bytes, page_bytes, registers_at, entries_at, console_at, memory_at, length_by, header_of, counts_of, file_of}
 use Rattle.machine_file.specs.Judged.{counts_in, numbers_in, cpu_in, machine_in, console_in, memory_in, counts_ok, offsets_ok, length_ok, numbers_ok, record_ok}
 use Rattle.machine_file.proofs.Lengths.{length-header, length-registers, length-entries, length-file}
-use Rattle.snapshot.specs.declared.ReadAnswer.{ReadAnswer}
-use Rattle.snapshot.specs.declared.ReadAnswer.TheVariants as reads
+use Rattle.snapshot.specs.declared.ReadRefusal.{ReadRefusal}
 use Rattle.snapshot.specs.Saving.{save}
 use Rattle.snapshot.specs.Reading.{first_read_refusal, read_answer, read_by, read}
 use Rattle.snapshot.proofs.Answers.{size_most, whole_pages, held_few, SaveAccepted, save_accepts}
@@ -54,15 +53,15 @@ stop_ok Halted = refl
 stop_ok Masked = refl
 stop_ok NoFrame = refl
 
-cause_ok : (x : LastCause) → leb (cause_number x) 7 ≡ true
+cause_ok : (x : Option Cause) → leb (cause_number x) 7 ≡ true
 cause_ok None = refl
-cause_ok (Of AddressBeyondMemory) = refl
-cause_ok (Of DirectoryAbsent) = refl
-cause_ok (Of DirectoryBeyondMemory) = refl
-cause_ok (Of TableAbsent) = refl
-cause_ok (Of NoUserRight) = refl
-cause_ok (Of NoWriteRight) = refl
-cause_ok (Of FrameBeyondMemory) = refl
+cause_ok (Some AddressBeyondMemory) = refl
+cause_ok (Some DirectoryAbsent) = refl
+cause_ok (Some DirectoryBeyondMemory) = refl
+cause_ok (Some TableAbsent) = refl
+cause_ok (Some NoUserRight) = refl
+cause_ok (Some NoWriteRight) = refl
+cause_ok (Some FrameBeyondMemory) = refl
 
 own_numbers : (c : Cpu) → numbers_ok (numbers_of c) ≡ true
 unfolding numbers_ok
@@ -83,7 +82,7 @@ all_true : {a b c d : Bool} → a ≡ true → b ≡ true → c ≡ true → d �
 all_true p q r s = rw (p, q, r, s)
 
 read_passes : {size header counts offsets registers : Bool} → size ≡ true → header ≡ true → counts ≡ true → offsets ≡ true → registers ≡ true
-    → first_read_refusal size header counts offsets registers ≡ reads.Accepted
+    → first_read_refusal size header counts offsets registers ≡ Ok tt
 read_passes p q r s t = rw (p, q, r, s, t)
 
 -- accepted entries are small
@@ -219,7 +218,7 @@ module _ (m : Machine) (mem con file : List ℕ) (fits : Fits m.cpu) (a : SaveAc
         all_true (ap numbers_ok numbers_read ∙ own_numbers m.cpu) rights_judged registers_judged
         ((λ i. buffer_ok (same i) (entries_read i)) ∙ a.buffer)
 
-    answer_read : read_answer saved (length mem') (length con') ≡ reads.Accepted
+    answer_read : read_answer saved (length mem') (length con') ≡ Ok tt
     unfolding read_answer
     answer_read =
         read_passes (ap size_ok same ∙ a.size) (le-leb header_bytes (length saved) (omega (arith, length-saved)))
@@ -235,12 +234,12 @@ module _ (m : Machine) (mem con file : List ℕ) (fits : Fits m.cpu) (a : SaveAc
     console_read = ap (take m.cpu.written) console_stands ∙ take_at text mem m.cpu.written length-text
 
     saved_back : read saved mem' con'
-        ≡ record { answer = reads.Accepted; machine = carried m; mem = mem; console = text ++ drop m.cpu.written con' }
+        ≡ record { answer = Ok tt; machine = carried m; mem = mem; console = text ++ drop m.cpu.written con' }
     unfolding read
     saved_back =
-        ap (λ (x : ReadAnswer). read_by x saved mem' con') answer_read
-        ∙ ap (λ (x : Counts). record { answer = reads.Accepted; machine = machine_in saved x; mem = memory_in saved x; console = console_in saved x ++ drop x.console con' }) counts_read
-        ∙ (λ i. record { answer = reads.Accepted; machine = machine_read i; mem = memory_stands i; console = console_read i ++ drop m.cpu.written con' })
+        ap (λ (x : Result Unit ReadRefusal). read_by x saved mem' con') answer_read
+        ∙ ap (λ (x : Counts). record { answer = Ok tt; machine = machine_in saved x; mem = memory_in saved x; console = console_in saved x ++ drop x.console con' }) counts_read
+        ∙ (λ i. record { answer = Ok tt; machine = machine_read i; mem = memory_stands i; console = console_read i ++ drop m.cpu.written con' })
 
   -- the bytes that a save answers are the machine's
   bytes_saved : saved_bytes m mem con file ≡ saved

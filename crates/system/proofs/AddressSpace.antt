@@ -9,7 +9,7 @@ use lib.Dec.{eqb}
 use borrow.Author.Tests.{lt-ltb, le-ltb}
 use Rattle.word.specs.Word.{cut}
 use Rattle.paging.specs.declared.Cause.TheVariants.{AddressBeyondMemory}
-use Rattle.paging.specs.TrapCode.{FMEM}
+use Rattle.paging.specs.declared.TrapCode.TheVariants.{Fmem}
 use Rattle.paging.specs.Counting.{raised, counted}
 use Rattle.buffer.specs.Held.{walks, lent, Buffer}
 use Rattle.mmu.specs.Good.{Good}
@@ -38,10 +38,10 @@ module _ (c : Cpu) {m con l : List ℕ} where
 
   -- "PDIR: a not below M is FMEM with vadr = a"
   pub pdir_fault : {n : ℕ} {x : Cpu} {m' l' : List ℕ} → length m ≤ c.regs.a → n ≡ next_pc c
-      → Finishes (fault_tree c (record { code = FMEM; cause = AddressBeyondMemory; address = c.regs.a }) n) c m con l x m' con l'
+      → Finishes (fault_tree c (record { code = Fmem; cause = AddressBeyondMemory; address = c.regs.a }) n) c m con l x m' con l'
       → Finishes (pdir_tree (length m) c (moved_on c)) c m con l x m' con l'
   unfolding pdir_tree
-  pdir_fault h p f = finishes_else _ _ (le-ltb _ _ h) (at_next (fault_tree c (record { code = FMEM; cause = AddressBeyondMemory; address = c.regs.a })) c p f)
+  pdir_fault h p f = finishes_else _ _ (le-ltb _ _ h) (at_next (fault_tree c (record { code = Fmem; cause = AddressBeyondMemory; address = c.regs.a })) c p f)
 
 -- "SPAG: paging = (a ≠ 0)"
 pub spag_set : (n : Cpu) {m con l : List ℕ} {x : Cpu} {l' : List ℕ} → lent l' ≡ counted [] (walks l) → Buffer l' → Good (length m) n.space.pdir l

@@ -1,12 +1,13 @@
 -- A step's tree after its instruction stores only through the writes that it was granted itself: what was granted before does not count.
+use Rattle.std.proofs.Common.{Ok, Err}
 use Prim.Native.Nat.{ℕ}
 use mathlib.Core.List.{List, [], ◌++◌}
 use mathlib.Core.Path.{◌≡◌}
 use Rattle.word.specs.Word.{difference}
 use Rattle.memory.specs.Memory.{load_n}
 use Rattle.paging.specs.declared.Access.TheVariants.{Read}
-use Rattle.paging.specs.declared.Answer.{Answer}
-use Rattle.paging.specs.declared.Answer.TheVariants.{At, Denied}
+use Rattle.paging.specs.Answer.{Answer}
+use Rattle.paging.specs.declared.TrapCode.{TrapCode}
 use Rattle.paging.specs.Walk.{is_write}
 use Rattle.paging.specs.Event.{Event}
 use Rattle.paging.specs.Translate.{Outcome}
@@ -44,8 +45,8 @@ module _ (k : Cpu) (con : List ℕ) where
     read_reply : (a : Answer) (m : List ℕ) (es : Kept) (gs : List Grant)
         → run (f (reply_to Read n m a).reply) m es ((reply_to Read n m a).grants ++ gs) ≡ run (f (reply_to Read n m a).reply) m es ((reply_to Read n m a).grants ++ [])
     unfolding reply_to is_write
-    read_reply (At p) m es gs = (h (got (load_n n m p))).fresh m es gs
-    read_reply (Denied x) m es gs = (h (denied x)).fresh m es gs
+    read_reply (Ok p) m es gs = (h (got (load_n n m p))).fresh m es gs
+    read_reply (Err x) m es gs = (h (denied x)).fresh m es gs
 
     fresh_read : Fresh (ask (access Read n va) f)
     unfolding interpret answered finished
@@ -56,23 +57,23 @@ module _ (k : Cpu) (con : List ℕ) where
     }
 
   -- ---- a trap frame is stored through the writes of its own two slots
-  module _ (c : Cpu) (left : Pending) (code pc : ℕ) where
+  module _ (c : Cpu) (left : Pending) (code : TrapCode) (pc : ℕ) where
     abbrev framing : Outcome Kept Replied → List Grant → State Kept
     framing o gs = run (framed c left code pc o.answer.reply) o.mem o.buffer (o.answer.grants ++ gs)
 
     second_slot_lem : (p : ℕ) (ev : List Event) (o : Outcome Kept Answer) (a : Answer) (gs : List Grant)
         → framing (second_slot translator p ev o a) gs ≡ framing (second_slot translator p ev o a) []
     unfolding second_slot interpret finished store_all
-    second_slot_lem p ev o (At q) gs = rw (store_none gs)
-    second_slot_lem p ev o (Denied f) gs = (fresh_final (with_stop NoFrame c) none).fresh o.mem o.buffer gs
+    second_slot_lem p ev o (Ok q) gs = rw (store_none gs)
+    second_slot_lem p ev o (Err f) gs = (fresh_final (with_stop NoFrame c) none).fresh o.mem o.buffer gs
 
     first_slot_lem : (va : ℕ) (o : Outcome Kept Answer) (a : Answer) (gs : List Grant)
         → framing (first_slot translator k.space va o a) gs ≡ framing (first_slot translator k.space va o a) []
     unfolding first_slot
-    first_slot_lem va o (At p) gs =
+    first_slot_lem va o (Ok p) gs =
         let t = translator.translate k.space (slot va) o.mem o.buffer in
         second_slot_lem p o.events t t.answer gs
-    first_slot_lem va o (Denied f) gs = (fresh_final (with_stop NoFrame c) none).fresh o.mem o.buffer gs
+    first_slot_lem va o (Err f) gs = (fresh_final (with_stop NoFrame c) none).fresh o.mem o.buffer gs
 
     fresh_deliver : Fresh (deliver_tree c left code pc)
     unfolding deliver_tree interpret answered finished

@@ -1,4 +1,5 @@
 -- Document 01, "Traps": RTI ends as its tree says. One law for each `return`.
+use Rattle.std.proofs.Common.{Ok, Err}
 use Prim.Native.Nat.{ℕ}
 use mathlib.Core.Bool.{Bool, true, false}
 use mathlib.Core.List.{List}
@@ -6,8 +7,7 @@ use mathlib.Core.Path.{◌≡◌, refl, subst, ◌∙◌}
 use Rattle.word.specs.Word.{sum}
 use Rattle.memory.specs.Memory.{load_n}
 use Rattle.paging.specs.declared.Access.TheVariants.{Read}
-use Rattle.paging.specs.declared.Answer.{Answer}
-use Rattle.paging.specs.declared.Answer.TheVariants.{At, Denied}
+use Rattle.paging.specs.Answer.{Answer}
 use Rattle.paging.specs.declared.Fault.{Fault}
 use Rattle.paging.specs.TrapCode.{USER}
 use Rattle.paging.specs.Walk.{bit}
@@ -38,12 +38,12 @@ returned_keeps c code pc = go (bit USER code)
 module _ (c : Cpu) {con m l : List ℕ} {a : Answer} {m' l' : List ℕ}
     (t : Translates c.space (requested Read 4 c.regs.sp c.system.user) m l a m' l') where
   -- the code cannot be read
-  pub rti_first : {z y : Fault} {n : ℕ} {x : Cpu} {m'' l'' : List ℕ} → a ≡ Denied z → y ≡ fault_of a → n ≡ next_pc c
+  pub rti_first : {z y : Fault} {n : ℕ} {x : Cpu} {m'' l'' : List ℕ} → a ≡ Err z → y ≡ fault_of a → n ≡ next_pc c
       → Finishes (fault_tree c y n) c m' con l' x m'' con l'' → Finishes (rti_tree c) c m con l x m'' con l''
   unfolding rti_tree
   rti_first {y = y} e q p h = finishes_denied _ t e q (at_next (fault_tree c y) c p h)
 
-  module _ {second v code : ℕ} (s : second ≡ sum c.regs.sp 8) (e : a ≡ At v) (i : code ≡ load_n 4 m' v) {b : Answer} {m'' l'' : List ℕ}
+  module _ {second v code : ℕ} (s : second ≡ sum c.regs.sp 8) (e : a ≡ Ok v) (i : code ≡ load_n 4 m' v) {b : Answer} {m'' l'' : List ℕ}
       (u : Translates c.space (requested Read 4 second c.system.user) m' l' b m'' l'') where
     -- the code is read
     go_on : {x : Cpu} {m''' l''' : List ℕ} → Finishes (ask (access Read 4 second) (or_fault c (λ pc. ended (returned c code pc)))) c m' con l' x m''' con l'''
@@ -54,10 +54,10 @@ module _ (c : Cpu) {con m l : List ℕ} {a : Answer} {m' l' : List ℕ}
         (subst (λ j. Finishes (ask (access Read 4 j) (or_fault c (λ pc. ended (returned c code pc)))) c m' con l' x m''' con l''') s h)
 
     -- pc cannot be read
-    pub rti_second : {z y : Fault} {n : ℕ} {x : Cpu} {m''' l''' : List ℕ} → b ≡ Denied z → y ≡ fault_of b → n ≡ next_pc c
+    pub rti_second : {z y : Fault} {n : ℕ} {x : Cpu} {m''' l''' : List ℕ} → b ≡ Err z → y ≡ fault_of b → n ≡ next_pc c
         → Finishes (fault_tree c y n) c m'' con l'' x m''' con l''' → Finishes (rti_tree c) c m con l x m''' con l'''
     rti_second {y = y} d q p h = go_on (finishes_denied _ u d q (at_next (fault_tree c y) c p h))
 
     -- both are read
-    pub rti_both : {w pc : ℕ} {x : Cpu} → b ≡ At w → pc ≡ load_n 4 m'' w → x ≡ returned c code pc → Finishes (rti_tree c) c m con l x m'' con l''
+    pub rti_both : {w pc : ℕ} {x : Cpu} → b ≡ Ok w → pc ≡ load_n 4 m'' w → x ≡ returned c code pc → Finishes (rti_tree c) c m con l x m'' con l''
     rti_both {pc = pc} d j f = go_on (finishes_read _ u d j (finishes_ended (f ∙ returned_keeps c code pc) u.good))

@@ -8,6 +8,7 @@ ghost use Rattle.contracts.specs.Contract.{Finishes};
 ghost use Rattle.system.specs.Moved.{moved_on};
 
 use decode::SysOp;
+use paging::TrapCode;
 use rules::Cpu;
 
 mod pdir;
@@ -20,8 +21,7 @@ fn moved(c: Cpu) -> Cpu
     ensures { result ≡ moved_on c }
 {
     let mut n = c;
-    let pc = trap::next_pc(c);
-    n.regs.pc = pc;
+    n.regs.pc = trap::next_pc(c);
     n
 }
 
@@ -30,14 +30,15 @@ fn bout(c: Cpu, console: &mut [u8]) -> Cpu
     ensures { (m l : List ℕ) → Good (length m) c.space.pdir l
         → Finishes (bout_tree (length console.old) c) c m console.old l result m console.new l }
 {
-    let n = c.written;
-    if n < console.len() {
-        console[n] = (c.regs.b % 256) as u8;
-        let mut x = plain::set_a(c, 1);
-        x.written = n + 1;
-        return x;
+    let mut n = c;
+    if c.written < console.len() {
+        console[c.written] = (c.regs.b % 256) as u8;
+        n.regs.a = 1;
+        n.written = c.written + 1;
+        return n;
     }
-    plain::set_a(c, 0xFFFF_FFFF)
+    n.regs.a = 0xFFFF_FFFF;
+    n
 }
 
 // A privileged instruction in kernel mode; c is the record before the fetch.
@@ -77,7 +78,7 @@ pub fn system(
         c mem.old console.old tlb.old result mem.new console.new tlb.new }
 {
     if c.system.user {
-        return trap::trap(c, paging::FPRIV, trap::next_pc(c), mem, tlb, hint);
+        return trap::trap(c, TrapCode::Fpriv, trap::next_pc(c), mem, tlb, hint);
     }
     privileged(c, op, mem, console, tlb, hint)
 }

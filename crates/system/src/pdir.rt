@@ -5,7 +5,7 @@ ghost use Rattle.rules.specs.System.{pdir_tree};
 ghost use Rattle.contracts.specs.Contract.{Finishes};
 ghost use Rattle.system.specs.Moved.{moved_on};
 
-use paging::{Cause, Fault};
+use paging::{Cause, Fault, Space, TrapCode};
 use rules::Cpu;
 
 // c is the record before the fetch, and n the same with pc moved on.
@@ -15,13 +15,17 @@ pub fn pdir(c: Cpu, n: Cpu, mem: &mut [u8], tlb: &mut [u64], hint: &mut [u8; 256
 {
     let a = c.regs.a;
     if (a as usize) < mem.len() {
-        let mut space = c.space;
-        space.pdir = a / 4096 * 4096;
         buffer::empty(tlb);
-        return crate::plain::set_space(n, space);
+        return Cpu {
+            space: Space {
+                pdir: a / 4096 * 4096,
+                ..c.space
+            },
+            ..n
+        };
     }
     let f = Fault {
-        code: paging::FMEM,
+        code: TrapCode::Fmem,
         cause: Cause::AddressBeyondMemory,
         address: a,
     };

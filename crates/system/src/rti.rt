@@ -5,7 +5,8 @@ ghost use Rattle.rules.specs.System.{returned as returned_of, rti_tree};
 ghost use Rattle.contracts.specs.Contract.{Finishes};
 
 use memory::Size;
-use paging::{Access, Answer};
+use mmu::Bus;
+use paging::Access;
 use rules::Cpu;
 
 // The record after RTI has read code and pc.
@@ -14,13 +15,11 @@ fn returned(c: Cpu, code: u32, pc: u32) -> Cpu
 {
     let mut n = c;
     let sp = word::sum(c.regs.sp, 16) / 8 * 8;
-    let next = pc / 4 * 4;
-    n.regs.pc = next;
+    n.regs.pc = pc / 4 * 4;
     n.regs.sp = sp;
     n.system.iena = true;
     if code / 16 % 2 == 1 {
-        let usp = c.system.usp;
-        n.regs.sp = usp;
+        n.regs.sp = c.system.usp;
         n.system.ksp = sp;
         n.system.user = true;
         return n;
@@ -33,19 +32,23 @@ pub fn rti(c: Cpu, mem: &mut [u8], tlb: &mut [u64], hint: &mut [u8; 256]) -> Cpu
     requires { Good (length mem.old) c.space.pdir tlb.old }
     ensures { (con : List ℕ) → Finishes (rti_tree c) c mem.old con tlb.old result mem.new con tlb.new }
 {
-    let s = c.space;
-    let user = c.system.user;
     let sp = c.regs.sp;
-    let second = word::sum(sp, 8);
-    let p = mmu::translate(mem, tlb, hint, s, sp, Size::Word, Access::Read, user);
-    let Answer::At(x) = p else {
+    let mut bus = Bus {
+        mem,
+        tlb,
+        hint,
+        space: c.space,
+        user: c.system.user,
+    };
+    let p = bus.translate(sp, Size::Word, Access::Read);
+    let Ok(x) = p else {
         return trap::fault(c, contracts::fault_of(p), trap::next_pc(c), mem, tlb, hint);
     };
-    let code = memory::load4(mem, x);
-    let q = mmu::translate(mem, tlb, hint, s, second, Size::Word, Access::Read, user);
-    let Answer::At(y) = q else {
+    let code = memory::load4(bus.bytes(), x);
+    let q = bus.translate(word::sum(sp, 8), Size::Word, Access::Read);
+    let Ok(y) = q else {
         return trap::fault(c, contracts::fault_of(q), trap::next_pc(c), mem, tlb, hint);
     };
-    let pc = memory::load4(mem, y);
+    let pc = memory::load4(bus.bytes(), y);
     returned(c, code, pc)
 }

@@ -5,6 +5,7 @@ ghost use Rattle.mmu.specs.Good.{Good};
 ghost use Rattle.rules.specs.System.{spag_tree};
 ghost use Rattle.contracts.specs.Contract.{Finishes};
 
+use paging::Space;
 use rules::Cpu;
 
 // n has pc moved on; memory and console stay.
@@ -12,8 +13,12 @@ pub fn spag(n: Cpu, tlb: &mut [u64]) -> Cpu
     requires { Buffer tlb.old }
     ensures { (m con : List ℕ) → Good (length m) n.space.pdir tlb.old → Finishes (spag_tree n) n m con tlb.old result m con tlb.new }
 {
-    let mut space = n.space;
-    space.paging = n.regs.a != 0;
     buffer::empty(tlb);
-    crate::plain::set_space(n, space)
+    Cpu {
+        space: Space {
+            paging: n.regs.a != 0,
+            ..n.space
+        },
+        ..n
+    }
 }

@@ -4,16 +4,16 @@ use Prim.Native.Nat.{ℕ, zero, suc, ◌+◌, ◌-◌, ◌*◌, ◌/◌, ◌%◌
 use mathlib.Core.Bool.{Bool, true, false, ◌&&◌}
 use mathlib.Core.List.{List, [], ◌∷◌, ◌++◌, append_assoc, append-nil}
 use mathlib.Core.Path.{◌≡◌, refl, sym, ◌∙◌, ap}
-use native.Mathlib.Nat.{add-zero, add-suc, add_assoc, mul_assoc, pow-succ', div-one, div-div-eq-div-mul}
+use native.Mathlib.Nat.{zero-add, suc-add, add-zero, add-suc, pow-succ', pow-le-pow_right, div-one, div-div-eq-div-mul}
+use native.Mathlib.Numerals.{add-one}
 use native.Mathlib.Omega.{arith}
-use borrow.Author.Tests.{ltb-true, ltb-false, leb-true, lt-ltb, le-ltb, le-leb}
+use borrow.Author.Tests.{ltb-true, ltb-false, lt-ltb, le-ltb, le-leb}
 use lib.Dec.{ltb, leb}
-use lib.ListN.{length, get_or, length-append}
-use lib.Seq.{append_snoc, get_or-append_seam}
+use lib.ListN.{length, get_or, take, drop, set, length-append, length-set, length-take, drop_of_length-le}
+use lib.Seq.{append_snoc, get_or-append_seam, get_or-drop, get_or-take}
+use Rattle.std.proofs.lemmas.List.{drop-set}
 use Rattle.word.proofs.BoolLaws.{both}
 use Rattle.text.specs.Hex.{hex_digit, hex_digits, hex_number, hex_value}
-use Rattle.text.specs.Written.{Written}
-use Rattle.text.proofs.Laws.{written_then, written_as}
 
 pub length-hex : (k n : ℕ) → length (hex_digits k n) ≡ k
 unfolding hex_digits
@@ -30,14 +30,6 @@ hex_split a (suc b) n =
     rw (add-suc a b, hex_split a b (n / 16), div-div-eq-div-mul, pow-succ')
     (append_assoc (hex_digits a (n / (16 * 16 ^ b))) (hex_digits b (n / 16)) (hex_digit (n % 16) ∷ []))
 
--- the value of a + b bytes: that of the first a, and that of the b after them
-pub hex_value_split : (a b : ℕ) (l : List ℕ) (at : ℕ) → hex_value (a + b) l at ≡ 16 ^ b * hex_value a l at + hex_value b l (at + a)
-unfolding hex_value
-hex_value_split a zero l at = rw (add-zero a) (omega arith)
-hex_value_split a (suc b) l at =
-    rw (add-suc a b, hex_value_split a b l at, pow-succ', add_assoc at a b)
-    (omega (arith, mul_assoc 16 (16 ^ b) (hex_value a l at)))
-
 -- ---- what bytes stand for is small
 
 number_by : (s t : Bool) (x : ℕ) → (leb 48 x && ltb x 58) ≡ s → (leb 97 x && ltb x 103) ≡ t → (if s then x - 48 else (if t then x - 87 else 0)) < 16
@@ -52,14 +44,6 @@ pub hex_value_below : (k : ℕ) (l : List ℕ) (at : ℕ) → hex_value k l at <
 unfolding hex_value
 hex_value_below zero l at = omega arith
 hex_value_below (suc k) l at = rw pow-succ' (omega (arith, hex_value_below k l at, hex_number_below (get_or l (at + k) 0)))
-
--- ---- the value of a line's part, by the code's values of its two halves
-
-pub half_below : (k : ℕ) (l : List ℕ) (at : ℕ) {p : ℕ} → p ≡ hex_value k l at → p < 16 ^ k
-half_below k l at e = rw e (hex_value_below k l at)
-
-pub halves : (k : ℕ) (l : List ℕ) (at : ℕ) {p q : ℕ} → p ≡ hex_value k l at → q ≡ hex_value k l (at + k) → 16 ^ k * p + q ≡ hex_value (k + k) l at
-halves k l at e f = rw (e, f) (sym (hex_value_split k k l at))
 
 -- ---- digits written read back
 
@@ -86,37 +70,52 @@ hex_back x y (suc k) n h =
     let first : hex_value k line (length x) ≡ n / 16 = hex_back x (d ∷ y) k (n / 16) (omega (arith, pow-succ' 16 k, h)) in
     ap (λ (l : List ℕ). hex_value (suc k) l (length x)) e ∙ omega (arith, first, last)
 
--- ---- a digit's byte, and its number, by the code's tests
+-- ---- digits read from a line, by the loop
 
-pub digit_decimal : (d : ℕ) → d < 10 → 48 + d ≡ hex_digit d
-digit_decimal d h = rw (lt-ltb d 10 h)
-
-pub digit_letter : (d : ℕ) → 10 ≤ d → 87 + d ≡ hex_digit d
-digit_letter d h = rw (le-ltb d 10 h)
-
-module _ (x : ℕ) where
-  pub number_decimal : (leb 48 x && ltb x 58) ≡ true → x - 48 ≡ hex_number x
-  number_decimal e = rw e
-
-  module _ (e : (leb 48 x && ltb x 58) ≡ false) where
-    pub number_letter : (leb 97 x && ltb x 103) ≡ true → x - 97 + 10 ≡ hex_number x
-    number_letter f = let h = leb-true 97 x (both (leb 97 x) (ltb x 103) f).0 in rw (e, f) (omega arith)
-
-    pub number_none : (leb 97 x && ltb x 103) ≡ false → 0 ≡ hex_number x
-    number_none f = rw (e, f)
-
--- two of them
-pub hex_two : (l : List ℕ) (at : ℕ) {p q : ℕ} → p ≡ hex_number (get_or l at 0) → q ≡ hex_number (get_or l (at + 1) 0) → 16 * p + q ≡ hex_value 2 l at
+-- one more byte, the k-th of the m from `at` on
+pub value_on : (l : List ℕ) (at m k : ℕ) {v d : ℕ} → k < length (take m (drop at l)) → d ≡ hex_number (get_or (take m (drop at l)) k 0) → v ≡ hex_value k l at
+    → 16 * v + d ≡ hex_value (k + 1) l at
 unfolding hex_value
-hex_two l at e f = rw (e, f, add-zero at) (omega arith)
+value_on l at m k h e f =
+    let i : k < m = omega (arith, h, length-take m (drop at l)) in
+    rw (add-one k, e, f, get_or-take m (drop at l) k 0 i, get_or-drop at l k 0) refl
 
--- ---- digits written into a line
+-- of eight a word holds it with one more digit
+pub value_small : (l : List ℕ) (at m k : ℕ) {v : ℕ} → m ≤ 8 → k < length (take m (drop at l)) → v ≡ hex_value k l at → 16 * v + 16 ≤ 2 ^ 32
+value_small l at m k s h e =
+    let p : 16 ^ suc k ≤ 16 ^ 8 = pow-le-pow_right {n = 16} (omega arith) {i = suc k} {j = 8} (omega (arith, h, length-take m (drop at l))) in
+    omega (arith, e, hex_value_below k l at, pow-succ' 16 k, p)
 
--- they take as many bytes as they are
-pub hex_room : (k n : ℕ) {at r : ℕ} {l l' : List ℕ} → Written (hex_digits k n) l at l' r → r ≡ at + k
-hex_room k n {at} w = w.end ∙ ap (λ (j : ℕ). at + j) (length-hex k n)
+-- ---- the digits of a word, the last first
 
--- those of a quotient, and the last b
-pub hex_then : (a b n : ℕ) {at r s : ℕ} {l l' l'' : List ℕ} → Written (hex_digits a (n / 16 ^ b)) l at l' r → Written (hex_digits b n) l' r l'' s
-    → Written (hex_digits (a + b) n) l at l'' s
-hex_then a b n v w = written_as (sym (hex_split a b n)) (written_then v w)
+-- those from the i-th of eight on stand, and rest is what is left of the number
+pub record Filled (n i : ℕ) (l : List ℕ) (rest : ℕ) : Type 0 where
+  pub left : rest ≡ n / 16 ^ (8 - i)
+  pub back : drop i l ≡ hex_digits (8 - i) n
+  pub size : length l ≡ 8
+
+-- the first of some digits
+first_digit : (k n : ℕ) → hex_digits (suc k) n ≡ hex_digit (n / 16 ^ k % 16) ∷ hex_digits k n
+unfolding hex_digits
+first_digit k n = ap (λ (j : ℕ). hex_digits j n) (ap suc (sym (zero-add k)) ∙ sym (suc-add 0 k)) ∙ hex_split 1 k n
+
+pub filled_start : (n : ℕ) {l : List ℕ} → length l ≡ 8 → Filled n 8 l n
+unfolding hex_digits
+filled_start n {l} e =
+    let long : length l ≤ 8 = omega arith in
+    record { left = sym (div-one n); back = drop_of_length-le l long; size = e }
+
+module _ {n i rest : ℕ} {l : List ℕ} (f : Filled n i l rest) where
+  -- one more, at j
+  pub filled_on : {j d : ℕ} → i ≡ suc j → i ≤ 8 → d ≡ hex_digit (rest % 16) → Filled n j (set l j d) (rest / 16)
+  filled_on {j} {d} e h q =
+      let m : 8 - j ≡ suc (8 - i) = omega arith in
+      let a : j + 1 ≡ i = omega arith in
+      record {
+        left = rw (m, f.left) (div-div-eq-div-mul n (16 ^ (8 - i)) 16 ∙ ap (λ (k : ℕ). n / k) (omega (arith, pow-succ' 16 (8 - i))));
+        back = drop-set l j d (omega (arith, f.size)) ∙ rw (a, f.back, m, first_digit (8 - i) n, q, f.left) refl;
+        size = length-set l j d ∙ f.size;
+      }
+
+  pub filled_end : i ≡ 0 → l ≡ hex_digits 8 n
+  filled_end e = rw e at f.back

@@ -1,18 +1,22 @@
 -- What holds of a number's digits: at most 20, one for each step of the recursion; and of texts written one after another.
 use Rattle.std.proofs.Common.{if◌then◌else◌}
-use Prim.Native.Nat.{ℕ, zero, suc, ◌-◌, ◌/◌, ◌%◌, ◌^◌, ◌<◌, ◌≤◌}
+use Prim.Native.Nat.{ℕ, zero, suc, ◌+◌, ◌-◌, ◌/◌, ◌%◌, ◌^◌, ◌<◌, ◌≤◌}
 use mathlib.Core.Bool.{Bool, true, false}
-use mathlib.Core.List.{List, [], ◌∷◌, ◌++◌, append_assoc}
+use mathlib.Core.List.{List, [], ◌∷◌, ◌++◌, append-nil, append_assoc}
 use mathlib.Core.Path.{◌≡◌, refl, sym, ◌∙◌, ap, subst}
 use native.Mathlib.Nat.{zero-add}
 use native.Mathlib.Omega.{arith}
 use borrow.Author.Tests.{ltb-true, ltb-false, lt-ltb, le-ltb}
+use borrow.Rule.Slice.PartMut.{put_mid}
+use Rattle.std.proofs.lemmas.Slice.{take-put_mid, drop-put_mid}
 use lib.Dec.{ltb}
-use lib.ListN.{length, take, drop, length-append, length-take}
+use lib.ListN.{length, take, drop, length-append, length-take, length-drop}
 use lib.Seq.{drop-drop}
 use Rattle.text.specs.Digits.{digit_of, digits, decimal_of}
 use Rattle.text.specs.Signed.{signed_of}
 use Rattle.text.specs.Written.{Written}
+use Rattle.text.specs.declared.Writer.{Writer}
+use Rattle.text.specs.Adds.{Adds}
 
 -- the digits by the outcome of the test
 by_test : Bool → ℕ → ℕ → List ℕ
@@ -102,6 +106,33 @@ written_then {x} {y} {l} {l'} {l''} {at} {r} {s} v w = record {
 
 pub written_as : {x y l l' : List ℕ} {at r : ℕ} → x ≡ y → Written x l at l' r → Written y l at l' r
 written_as {x} {y} {l} {l'} {at} {r} e w = subst (λ (t : List ℕ). Written t l at l' r) e w
+
+-- ---- by a writer
+
+-- a part of the line that a text was copied to
+pub put_written : {x y l : List ℕ} {at k : ℕ} → at + length x ≤ length l → y ≡ x → k ≡ length x → Written x l at (put_mid at k l y) (at + length x)
+put_written {x} {y} {l} {at} {k} room e s = record {
+  end = refl;
+  front = take-put_mid at k l y (at + length x) (ap (λ (t : List ℕ). at + length t) (sym e)) (omega arith) ∙ ap (λ (t : List ℕ). take at l ++ t) e;
+  rest = drop-put_mid at k l y (at + length x) (omega arith) (omega arith) (ap length e ∙ sym s);
+}
+
+pub length-put_mid : (at k : ℕ) (y l : List ℕ) → at + k ≤ length l → length y ≡ k → length (put_mid at k l y) ≡ length l
+length-put_mid at k y l room e =
+    rw (length-append (take at l) (y ++ drop k (drop at l)), length-append y (drop k (drop at l)), length-take, length-drop, length-drop) (omega arith)
+
+pub nothing_added : (w : Writer) → Adds [] w w
+nothing_added w = record { same = refl; written = record { end = omega arith; front = sym (append-nil (take w.end w.bytes.now)); rest = refl }; size = refl }
+
+pub adds_then : {x y : List ℕ} {w w' w'' : Writer} → Adds x w w' → Adds y w' w'' → Adds (x ++ y) w w''
+adds_then a b = record { same = b.same ∙ a.same; written = written_then a.written b.written; size = b.size ∙ a.size }
+
+pub adds_as : {x y : List ℕ} {w w' : Writer} → x ≡ y → Adds x w w' → Adds y w w'
+adds_as {x} {y} {w} {w'} e a = subst (λ (t : List ℕ). Adds t w w') e a
+
+-- from the start on; n is what the lender holds, and r the index after the last byte
+pub finished : {x l n : List ℕ} {w w' : Writer} {r : ℕ} → (w.bytes.now ≡ l) × (w.end ≡ 0) → Adds x w w' → r ≡ w'.end → n ≡ w'.bytes.now → Written x l 0 n r
+finished s a e f = rw (e, f) (rw (s.0, s.1) at a.written)
 
 -- ---- a text at the start of a line
 

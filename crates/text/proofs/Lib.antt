@@ -1,4 +1,3 @@
-mod Copy
 pub mod HexLaws
 pub mod Laws
 mod Value

@@ -1,3 +1,4 @@
+pub mod Adds
 pub mod Ascii
 pub mod Digits
 pub mod Hex

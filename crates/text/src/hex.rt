@@ -1,88 +1,66 @@
 // Document 02, item 2: a word as eight lower-case hexadecimal digits, written into a lent line and read from one.
 ghost use Rattle.std.specs.Prelude.{◌+◌, ◌<◌, ◌≤◌, ◌≡◌, length};
-ghost use Rattle.text.specs.Hex.{hex_digit, hex_digits, hex_of, hex_number, hex_value};
-ghost use Rattle.text.specs.Written.{Written};
+ghost use Rattle.text.specs.Hex.{hex_digit, hex_of, hex_number, hex_value};
+ghost use Rattle.text.specs.Adds.{Adds, Room};
+
+use crate::Writer;
+
+// The digits of a word.
+const DIGITS: usize = 8;
 
 // The byte of a digit.
-fn digit_byte(d: u32) -> u8
+fn digit_byte(d: u8) -> u8
     requires { d < 16 }
     ensures { result ≡ hex_digit d }
 {
-    if d < 10 {
-        return b'0' + d as u8;
+    match d {
+        0..=9 => b'0' + d,
+        _ => b'a' - 10 + d,
     }
-    b'a' - 10 + d as u8
 }
 
-// The last digit of a number.
-fn write1(line: &mut [u8], at: usize, n: u32) -> usize
-    requires { at < length line.old }
-    ensures { Written (hex_digits 1 n) line.old at line.new result }
+// All eight digits of a word.
+fn digits_of(n: u32) -> [u8; DIGITS]
+    ensures { result ≡ hex_of n }
 {
-    line[at] = digit_byte(n % 16);
-    at + 1
+    let mut digits = [0; DIGITS];
+    let mut rest = n;
+    for i in (0..DIGITS).rev() {
+        digits[i] = digit_byte((rest % 16) as u8);
+        rest /= 16;
+    }
+    digits
 }
 
-// The last two.
-fn write2(line: &mut [u8], at: usize, n: u32) -> usize
-    requires { at + 2 ≤ length line.old }
-    ensures { Written (hex_digits 2 n) line.old at line.new result }
-{
-    let end = write1(line, at, n / 16);
-    write1(line, end, n)
-}
-
-// The last four.
-fn write4(line: &mut [u8], at: usize, n: u32) -> usize
-    requires { at + 4 ≤ length line.old }
-    ensures { Written (hex_digits 4 n) line.old at line.new result }
-{
-    let end = write2(line, at, n / 256);
-    write2(line, end, n)
-}
-
-// All eight digits of a word. The result is the index after the last.
-pub fn write8(line: &mut [u8], at: usize, n: u32) -> usize
-    requires { at + 8 ≤ length line.old }
-    ensures { Written (hex_of n) line.old at line.new result }
-{
-    let end = write4(line, at, n / 65536);
-    write4(line, end, n)
+impl Writer<'_> {
+    // A word, in eight digits.
+    pub fn hex(&mut self, n: u32)
+        requires { Room 8 self.old }
+        ensures { Adds (hex_of n) self.old self.new }
+    {
+        self.put(&digits_of(n));
+    }
 }
 
 // The number of a digit's byte, 0 of any other.
 fn digit_number(x: u8) -> u32
     ensures { result ≡ hex_number x }
 {
-    if (b'0' <= x) & (x < b'0' + 10) {
-        return (x - b'0') as u32;
+    match x {
+        b'0'..=b'9' => u32::from(x - b'0'),
+        b'a'..=b'f' => u32::from(x - b'a' + 10),
+        _ => 0,
     }
-    if (b'a' <= x) & (x < b'a' + 6) {
-        return (x - b'a' + 10) as u32;
-    }
-    0
 }
 
-// The number that two bytes stand for.
-fn read2(line: &[u8], at: usize) -> u32
-    requires { at + 2 ≤ length line.now }
-    ensures { result ≡ hex_value 2 line.now at }
-{
-    16 * digit_number(line[at]) + digit_number(line[at + 1])
-}
-
-// Four bytes.
-fn read4(line: &[u8], at: usize) -> u32
-    requires { at + 4 ≤ length line.now }
-    ensures { result ≡ hex_value 4 line.now at }
-{
-    256 * read2(line, at) + read2(line, at + 2)
-}
-
-// Eight bytes: a word.
+// The word that eight bytes stand for.
 pub fn read8(line: &[u8], at: usize) -> u32
     requires { at + 8 ≤ length line.now }
     ensures { result ≡ hex_value 8 line.now at }
 {
-    65536 * read4(line, at) + read4(line, at + 4)
+    let mut value = 0;
+    for x in &line[at..at + DIGITS] {
+        value = 16 * value + digit_number(*x);
+    }
+    value
 }

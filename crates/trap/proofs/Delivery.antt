@@ -1,5 +1,5 @@
 -- Document 01, "Traps", and document 02, item 1: a delivery, a stop and a fault end as their trees say. One law for each `return`.
-use Rattle.std.proofs.Common.{if◌then◌else◌}
+use Rattle.std.proofs.Common.{if◌then◌else◌, Ok, Err}
 use Prim.Native.Nat.{ℕ}
 use mathlib.Core.Bool.{true, false}
 use mathlib.Core.List.{List}
@@ -7,9 +7,9 @@ use mathlib.Core.Path.{◌≡◌, refl, sym, subst}
 use lib.ListN.{length}
 use Rattle.word.specs.Word.{difference}
 use Rattle.memory.specs.Memory.{store_n}
-use Rattle.paging.specs.declared.Answer.{Answer}
-use Rattle.paging.specs.declared.Answer.TheVariants.{At, Denied}
+use Rattle.paging.specs.Answer.{Answer}
 use Rattle.paging.specs.declared.Fault.{Fault}
+use Rattle.paging.specs.declared.TrapCode.{TrapCode}
 use Rattle.mmu.specs.Good.{Good}
 use Rattle.mmu.specs.Translates.{Translates}
 use Rattle.rules.specs.declared.Cpu.{Cpu}
@@ -24,7 +24,7 @@ use Rattle.contracts.proofs.Steps.{finishes_ended, finishes_first, finishes_seco
 
 -- ---- a delivery
 
-module _ (c : Cpu) (left : Pending) (code pc : ℕ) {top first second : ℕ} (h : top ≡ kernel_sp c) (p : first ≡ difference top 8) (q : second ≡ difference top 16) where
+module _ (c : Cpu) (left : Pending) (code : TrapCode) (pc : ℕ) {top first second : ℕ} (h : top ≡ kernel_sp c) (p : first ≡ difference top 8) (q : second ≡ difference top 16) where
   -- the code's slots are the rules'
   at_slots : {m con l : List ℕ} {x : Cpu} {m' con' l' : List ℕ} → Finishes (ask (slots first second) (framed c left code pc)) c m con l x m' con' l'
       → Finishes (deliver_tree c left code pc) c m con l x m' con' l'
@@ -36,26 +36,26 @@ module _ (c : Cpu) (left : Pending) (code pc : ℕ) {top first second : ℕ} (h 
 
   module _ {con m l : List ℕ} {a : Answer} {m' l' : List ℕ} (t : Translates c.space (slot first) m l a m' l') where
     -- the first slot is refused
-    pub deliver_first : {z : Fault} {x : Cpu} → a ≡ Denied z → x ≡ with_stop NoFrame c → Finishes (deliver_tree c left code pc) c m con l x m' con l'
+    pub deliver_first : {z : Fault} {x : Cpu} → a ≡ Err z → x ≡ with_stop NoFrame c → Finishes (deliver_tree c left code pc) c m con l x m' con l'
     unfolding space_after
     deliver_first e f = at_slots (finishes_first first second (framed c left code pc) t e (finishes_ended f t.good))
 
-    module _ {v : ℕ} (e : a ≡ At v) {b : Answer} {m'' l'' : List ℕ}
+    module _ {v : ℕ} (e : a ≡ Ok v) {b : Answer} {m'' l'' : List ℕ}
         (u : Translates c.space (slot second) m' l' b m'' l'') where
       -- the second slot is refused
-      pub deliver_second : {z : Fault} {x : Cpu} → b ≡ Denied z → x ≡ with_stop NoFrame c → Finishes (deliver_tree c left code pc) c m con l x m'' con l''
+      pub deliver_second : {z : Fault} {x : Cpu} → b ≡ Err z → x ≡ with_stop NoFrame c → Finishes (deliver_tree c left code pc) c m con l x m'' con l''
       unfolding space_after
       deliver_second d f = at_slots (finishes_second first second (framed c left code pc) t e u d (finishes_ended f u.good))
 
       -- both are granted, then pc and code are stored
-      pub deliver_both : {w n : ℕ} {x : Cpu} {m₁ m₂ : List ℕ} → b ≡ At w → n ≡ code_of c code → m₁ ≡ store_n 4 m'' v pc → m₂ ≡ store_n 4 m₁ w n
+      pub deliver_both : {w n : ℕ} {x : Cpu} {m₁ m₂ : List ℕ} → b ≡ Ok w → n ≡ code_of c code → m₁ ≡ store_n 4 m'' v pc → m₂ ≡ store_n 4 m₁ w n
           → x ≡ entered (put_pending left c) → Finishes (deliver_tree c left code pc) c m con l x m₂ con l''
       unfolding space_after
       deliver_both d g i j f = at_slots (finishes_both first second (framed c left code pc) t e u d refl f i (rw g at j))
 
 -- ---- "If iena = 0 a fault or TRAP stops with 2"
 
-module _ (c : Cpu) (code pc : ℕ) {m con l : List ℕ} {x : Cpu} where
+module _ (c : Cpu) (code : TrapCode) (pc : ℕ) {m con l : List ℕ} {x : Cpu} where
   pub trap_delivered : {m' con' l' : List ℕ} → c.system.iena ≡ true → Finishes (deliver_tree c c.clock.pending code pc) c m con l x m' con' l'
       → Finishes (trap_tree c code pc) c m con l x m' con' l'
   unfolding trap_tree

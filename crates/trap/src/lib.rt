@@ -3,39 +3,21 @@
 
 ghost use Rattle.std.specs.Prelude.{◌≡◌, List, ℕ, length};
 ghost use Rattle.mmu.specs.Good.{Good};
-ghost use Rattle.rules.specs.declared.Stop.TheVariants.{Masked, NoFrame};
 ghost use Rattle.rules.specs.Record.{with_stop, with_fault, put_pending};
 ghost use Rattle.rules.specs.Trap.{kernel_sp, code_of, saved_usp, entered as entered_of, next_pc, deliver_tree, trap_tree, fault_tree};
 ghost use Rattle.contracts.specs.Contract.{Finishes};
 
 use memory::Size;
-use paging::{Access, Answer, Fault};
-use rules::{Cpu, LastCause, Pending, Stop};
+use mmu::Bus;
+use paging::{Access, Fault, TrapCode};
+use rules::{Cpu, Pending, Stop};
 
 // ---- parts of the record
 
 pub fn stopped(c: Cpu, s: Stop) -> Cpu
     ensures { result ≡ with_stop s c }
 {
-    let regs = c.regs;
-    let clock = c.clock;
-    let space = c.space;
-    let system = c.system;
-    let cause = c.cause;
-    let model = c.model;
-    let floats = c.floats;
-    Cpu {
-        regs,
-        clock,
-        vadr: c.vadr,
-        space,
-        system,
-        cause,
-        stop: s,
-        written: c.written,
-        model,
-        floats,
-    }
+    Cpu { stop: s, ..c }
 }
 
 // The address of the next instruction.
@@ -49,25 +31,10 @@ pub fn next_pc(c: Cpu) -> u32
 fn with_fault(c: Cpu, f: Fault) -> Cpu
     ensures { result ≡ with_fault f c }
 {
-    let regs = c.regs;
-    let clock = c.clock;
-    let space = c.space;
-    let system = c.system;
-    let stop = c.stop;
-    let cause = f.cause;
-    let model = c.model;
-    let floats = c.floats;
     Cpu {
-        regs,
-        clock,
         vadr: f.address,
-        space,
-        system,
-        cause: LastCause::Of(cause),
-        stop,
-        written: c.written,
-        model,
-        floats,
+        cause: Some(f.cause),
+        ..c
     }
 }
 
@@ -90,7 +57,7 @@ fn saved_usp(c: Cpu) -> u32
     c.system.usp
 }
 
-fn trap_code(c: Cpu, code: u16) -> u32
+fn trap_code(c: Cpu, code: TrapCode) -> u32
     ensures { result ≡ code_of c code }
 {
     if c.system.user {
@@ -104,32 +71,13 @@ fn entered(c: Cpu, left: Pending) -> Cpu
     ensures { result ≡ entered_of (put_pending left c) }
 {
     let mut n = c;
-    let sp = word::difference(kernel_sp(c), 16);
-    let usp = saved_usp(c);
-    let pc = c.system.ivec;
-    let mut clock = c.clock;
-    clock.pending = left;
-    n.regs.sp = sp;
-    n.regs.pc = pc;
-    n.system.usp = usp;
+    n.regs.sp = word::difference(kernel_sp(c), 16);
+    n.regs.pc = c.system.ivec;
+    n.clock.pending = left;
+    n.system.usp = saved_usp(c);
     n.system.user = false;
     n.system.iena = false;
-    n.clock = clock;
     n
-}
-
-// A trap while iena = 0.
-fn masked(c: Cpu) -> Cpu
-    ensures { result ≡ with_stop Masked c }
-{
-    stopped(c, Stop::Masked)
-}
-
-// A frame that cannot be stored.
-fn no_frame(c: Cpu) -> Cpu
-    ensures { result ≡ with_stop NoFrame c }
-{
-    stopped(c, Stop::NoFrame)
 }
 
 // ---- traps
@@ -139,7 +87,7 @@ fn no_frame(c: Cpu) -> Cpu
 pub fn deliver(
     c: Cpu,
     left: Pending,
-    code: u16,
+    code: TrapCode,
     pc: u32,
     mem: &mut [u8],
     tlb: &mut [u64],
@@ -148,17 +96,23 @@ pub fn deliver(
     requires { Good (length mem.old) c.space.pdir tlb.old }
     ensures { (con : List ℕ) → Finishes (deliver_tree c left code pc) c mem.old con tlb.old result mem.new con tlb.new }
 {
-    let s = c.space;
+    let mut bus = Bus {
+        mem,
+        tlb,
+        hint,
+        space: c.space,
+        user: false,
+    };
     let top = kernel_sp(c);
     let first = word::difference(top, 8);
     let second = word::difference(top, 16);
-    let p = mmu::translate(mem, tlb, hint, s, first, Size::Word, Access::Write, false);
-    let Answer::At(x) = p else {
-        return no_frame(c);
+    let p = bus.translate(first, Size::Word, Access::Write);
+    let Ok(x) = p else {
+        return stopped(c, Stop::NoFrame);
     };
-    let q = mmu::translate(mem, tlb, hint, s, second, Size::Word, Access::Write, false);
-    let Answer::At(y) = q else {
-        return no_frame(c);
+    let q = bus.translate(second, Size::Word, Access::Write);
+    let Ok(y) = q else {
+        return stopped(c, Stop::NoFrame);
     };
     memory::store(mem, x, Size::Word, pc);
     memory::store(mem, y, Size::Word, trap_code(c, code));
@@ -168,7 +122,7 @@ pub fn deliver(
 // A fault without an address, or TRAP.
 pub fn trap(
     c: Cpu,
-    code: u16,
+    code: TrapCode,
     pc: u32,
     mem: &mut [u8],
     tlb: &mut [u64],
@@ -180,7 +134,7 @@ pub fn trap(
     if c.system.iena {
         return deliver(c, c.clock.pending, code, pc, mem, tlb, hint);
     }
-    masked(c)
+    stopped(c, Stop::Masked)
 }
 
 // A denied access.

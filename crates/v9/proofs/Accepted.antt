@@ -1,5 +1,5 @@
 -- Document 01, "Numbers returned": what an accepted run tells of the record, of memory's size and of the budget.
-use Rattle.std.proofs.Common.{if◌then◌else◌}
+use Rattle.std.proofs.Common.{if◌then◌else◌, Result}
 use Prim.Native.Nat.{ℕ, ◌≤◌, ◌<◌, ◌%◌, ◌^◌}
 use native.Mathlib.Omega.{arith}
 use native.Mathlib.Nat.{not-suc-le-zero}
@@ -13,7 +13,7 @@ use Rattle.word.proofs.BoolLaws.{both}
 use Rattle.walk.specs.Directory.{Directory}
 use Rattle.rules.specs.declared.Cpu.{Cpu}
 use Rattle.rules.specs.declared.Machine.{Machine}
-use Rattle.rules.specs.declared.RunAnswer.{RunAnswer}
+use Rattle.rules.specs.declared.RunRefusal.{RunRefusal}
 use Rattle.rules.specs.Run.{registers_ok, is_accepted, allowance, budget_ok}
 use Rattle.rules.proofs.AcceptableRecord.{registers_acceptable}
 use Rattle.rules.proofs.AcceptedRun.{accepted_tests, size_whole}
@@ -62,14 +62,14 @@ accepted_record m size console_size rising keys budget e =
     }
 
 -- some steps are left only of an accepted run, and no more than its budget
-pub allowance_some : (a : RunAnswer) (budget : ℕ) → 0 < allowance a budget → is_accepted a ≡ true
+pub allowance_some : (a : Result Unit RunRefusal) (budget : ℕ) → 0 < allowance a budget → is_accepted a ≡ true
 allowance_some a budget h = go (is_accepted a) h
   where
     go : (b : Bool) → 0 < (if b then budget else 0) → b ≡ true
     go true h = refl
     go false h = absurd (not-suc-le-zero h)
 
-pub allowance_most : (a : RunAnswer) (budget : ℕ) → allowance a budget ≤ budget
+pub allowance_most : (a : Result Unit RunRefusal) (budget : ℕ) → allowance a budget ≤ budget
 allowance_most a budget = go (is_accepted a)
   where
     go : (b : Bool) → (if b then budget else 0) ≤ budget

@@ -1,4 +1,3 @@
 pub mod Accepted
 pub mod Refused
 pub mod UnderWay
-pub mod Packed

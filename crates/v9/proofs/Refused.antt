@@ -1,5 +1,6 @@
 -- Document 01, "Numbers returned": "A refused run returns the record given and zero steps; memory and console keep their bytes", of each entry, by its
 -- contract; and "accepted with zero steps and no change". Document 02, item 6: without a step no walk is reported.
+use Rattle.std.proofs.Common.{Result, Ok, Err}
 use Prim.Native.Nat.{ℕ}
 use mathlib.Core.Path.{◌≡◌, refl, sym, ◌∙◌, ap}
 use mathlib.Core.Bool.{false}
@@ -11,8 +12,7 @@ use Rattle.paging.specs.Translate.{buffered}
 use Rattle.paging.specs.Counting.{walks_in}
 use Rattle.rules.specs.declared.Key.{Key}
 use Rattle.rules.specs.declared.Machine.{Machine}
-use Rattle.rules.specs.declared.RunAnswer.{RunAnswer}
-use Rattle.rules.specs.declared.RunAnswer.TheVariants.{Accepted, BadSize, BadRegisters, BadBuffer, BadKeys, BadConsole, BadBudget}
+use Rattle.rules.specs.declared.RunRefusal.{RunRefusal}
 use Rattle.rules.specs.Record.{is_running}
 use Rattle.rules.specs.Step.{State, Stepped}
 use Rattle.rules.specs.Run.{run_number, is_accepted, run, reported}
@@ -29,14 +29,9 @@ pub record Unchanged (m : Machine) (mem con : List ℕ) (x : Machine) (mem' con'
   pub console : con' ≡ con
 
 -- an answer whose number is not 0 refuses
-refusing : (a : RunAnswer) → (run_number a ≡ 0 → ⊥) → is_accepted a ≡ false
-refusing Accepted h = absurd (h refl)
-refusing BadSize h = refl
-refusing BadRegisters h = refl
-refusing BadBuffer h = refl
-refusing BadKeys h = refl
-refusing BadConsole h = refl
-refusing BadBudget h = refl
+refusing : (a : Result Unit RunRefusal) → (run_number a ≡ 0 → ⊥) → is_accepted a ≡ false
+refusing (Ok tt) h = absurd (h refl)
+refusing (Err e) h = refl
 
 -- without a step there is no walk
 no_walks : {B : Type 0} (ts : List (Stepped B)) → length ts ≡ 0 → walks_in (events_of ts) ≡ 0

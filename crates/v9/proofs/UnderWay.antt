@@ -1,4 +1,5 @@
 -- Document 01, "Numbers returned": a run under way: how it starts, goes on by a key, and ends. These are the laws of the entries' loops.
+use Rattle.std.proofs.Common.{Result, Option, is_some, IsSome}
 use Prim.Native.Nat.{ℕ, ◌+◌, ◌≤◌, ◌<◌, ◌^◌}
 use native.Mathlib.Omega.{arith}
 use native.Mathlib.Nat.{zero-add, not-suc-le-zero}
@@ -15,9 +16,8 @@ use Rattle.paging.proofs.CountingLaws.{raised_walks}
 use Rattle.mmu.specs.Translates.{Kept}
 use Rattle.clock.specs.Taken.{KeyFits}
 use Rattle.rules.specs.declared.Key.{Key}
-use Rattle.rules.specs.declared.Next.{Next}
 use Rattle.rules.specs.declared.Machine.{Machine}
-use Rattle.rules.specs.declared.RunAnswer.{RunAnswer}
+use Rattle.rules.specs.declared.RunRefusal.{RunRefusal}
 use Rattle.rules.specs.Clock.{next_of}
 use Rattle.rules.specs.Step.{State}
 use Rattle.rules.specs.Run.{keys_rise, keys_ok, is_accepted, allowance, run_number, run_answer, steps_of, last_of, run, reported}
@@ -49,13 +49,13 @@ pub record Continues (ks : List Key) (budget : ℕ) (m : Machine) (mem con : Lis
   pub state : outcome ks g mem' con' ≡ ending ks budget (view_of m mem con)
 
 -- a key that is there can be counted
-pub key_fits : (ks : List Key) (taken : ℕ) {k : Next} → k ≡ next_of ks taken → length ks < 2 ^ 64 → KeyFits k.some taken
+pub key_fits : (ks : List Key) (taken : ℕ) {k : Option Key} → k ≡ next_of ks taken → length ks < 2 ^ 64 → KeyFits k taken
 unfolding next_of
-key_fits ks taken {k} q h = record { fits = λ e. go (ltb taken (length ks)) refl (ap (λ (x : Next). x.some) (sym q) ∙ e) }
+key_fits ks taken q h = record { fits = λ e. go (ltb taken (length ks)) refl (ap is_some (sym q) ∙ e) }
   where
-    go : (b : Bool) → ltb taken (length ks) ≡ b → (next_of ks taken).some ≡ true → taken + 1 < 2 ^ 64
+    go : (b : Bool) → ltb taken (length ks) ≡ b → IsSome (next_of ks taken) → taken + 1 < 2 ^ 64
     go true e z = let t : taken < length ks = ltb-true taken (length ks) e in omega (arith, t, h)
-    go false e z = let w : ◌≡◌ {A = Bool} false true = rw e at z in absurd (true≢false (sym w))
+    go false e z = absurd (true≢false (sym (rw e at z)))
 
 -- nothing is left
 end_over : (ks : List Key) (n : ℕ) (s : State Kept) → n ≡ 0 → end_of ks n s ≡ s
@@ -67,7 +67,7 @@ module _ (ks : List Key) (budget : ℕ) (m : Machine) (mem con : List ℕ) where
   start = view_of m mem con
 
   -- the answer, and the run as it begins
-  abbrev first_answer : RunAnswer
+  abbrev first_answer : Result Unit RunRefusal
   first_answer = refusal_of m (length mem) (length con) (keys_rise 0 ks) (length ks) budget
 
   abbrev begun : UnderWay
@@ -101,12 +101,12 @@ module _ (ks : List Key) (budget : ℕ) (m : Machine) (mem con : List ℕ) where
     steps = omega arith;
     same = λ _. refl;
     state = sym (end_left ks (allowance first_answer budget) (counted_state 0 start))
-        ∙ ap (λ (a : RunAnswer). end_of ks (allowance a budget) (counted_state 0 start)) answers
+        ∙ ap (λ (a : Result Unit RunRefusal). end_of ks (allowance a budget) (counted_state 0 start)) answers
         ∙ counted_steps buffered ks (allowance (run_answer buffered ks budget start) budget) 0 start;
   }
 
   module _ {g : UnderWay} {mem' con' : List ℕ} (u : Continues ks budget m mem con g mem' con') where
-    pub under_next : {k : Next} {r : UnderWay} {mem'' con'' : List ℕ} → k ≡ next_of ks g.taken → Proceeds g k mem' con' r mem'' con''
+    pub under_next : {k : Option Key} {r : UnderWay} {mem'' con'' : List ℕ} → k ≡ next_of ks g.taken → Proceeds g k mem' con' r mem'' con''
         → Continues ks budget m mem con r mem'' con''
     under_next {r = r} q p = record {
       able = p.able;
@@ -118,7 +118,7 @@ module _ (ks : List Key) (budget : ℕ) (m : Machine) (mem con : List ℕ) where
 
     pub under_last : g.left ≤ 0 → RunsAs ks budget m mem con g.ran mem' con'
     under_last e = record {
-      number = ap (λ (b : RunAnswer). run_number b) u.answer;
+      number = ap (λ (b : Result Unit RunRefusal). run_number b) u.answer;
       answer = u.answer;
       steps = omega (arith, u.steps, counted);
       walks = walked;

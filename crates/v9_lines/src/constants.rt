@@ -3,12 +3,12 @@
 
 // Writes what is compared and whether the executable's line is the one expected; where it is not, the line too.
 fn compare(what: &[u8], file: &[u8], expected: &[u8]) {
-    let mut memory = [0u8; 32768];
+    let mut memory = [0; 32768];
     let mut console = io::buffer();
-    let mut shown = [0u8; 256];
+    let mut shown = [0; 256];
     let end = result_line::run_line(file, &mut memory, &mut console, &mut shown);
     io::write_all(1, what);
-    if check::same(&shown[..end], expected) {
+    if &shown[..end] == expected {
         io::write_all(1, b": equal to ");
     } else {
         io::write_all(1, b": ");

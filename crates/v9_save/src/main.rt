@@ -6,14 +6,13 @@ use rules::Machine;
 
 // The machine of a run, saved: the longest has 64 entries, 4,096 console bytes and 32,768 bytes of memory. A run leaves nothing that saving refuses.
 fn write_machine(m: Machine, memory: &[u8], console: &[u8]) {
-    let mut file = [0u8; 38008];
+    let mut file = [0; 38008];
     let saved = snapshot::save(m, memory, console, &mut file);
-    let n = saved.length;
-    io::write_all(1, &file[..n]);
+    io::write_all(1, &file[..saved.length]);
 }
 
 fn write_refused(number: u32) {
-    let mut line = [0u8; 64];
+    let mut line = [0; 64];
     let end = result_line::refused_line(&mut line, number);
     io::write_all(2, &line[..end]);
     io::write_all(2, b"\n");
@@ -21,23 +20,19 @@ fn write_refused(number: u32) {
 
 fn save_run(file: &[u8], memory: &mut [u8], console: &mut [u8]) {
     let loaded = loader::load(file, memory);
-    let answer = loaded.answer;
-    let number = executable::load_number(answer);
-    if number != 0 {
-        write_refused(number);
+    if let Err(refusal) = loaded.answer {
+        write_refused(refusal as u32);
         return;
     }
-    let m = loaded.machine;
-    let ran = v9::run_packed(m, memory, console, b"", 100_000);
-    let end = ran.machine;
-    write_machine(end, memory, console);
+    let ran = v9::run_packed(loaded.machine, memory, console, b"", 100_000);
+    write_machine(ran.machine, memory, console);
 }
 
 fn main() {
     // The longest that can be accepted, 16 + 32,768 bytes, and one more, by which a longer one is refused.
-    let mut file = [0u8; 32785];
+    let mut file = [0; 32785];
     let n = io::read_full(0, &mut file);
-    let mut memory = [0u8; 32768];
+    let mut memory = [0; 32768];
     let mut console = io::buffer();
     save_run(&file[..n], &mut memory, &mut console);
 }

@@ -1,4 +1,5 @@
 -- Document 02, item 6, the first bound: "never more than five in a step", of each machine.
+use Rattle.std.proofs.Common.{Option}
 use Prim.Native.Nat.{◌+◌, ◌≤◌}
 use mathlib.Core.Path.{◌≡◌, refl, ◌∙◌}
 use mathlib.Core.List.{[], ◌++◌}
@@ -7,7 +8,6 @@ use lib.ListN.{length}
 use Rattle.paging.specs.Translate.{Translator, buffered, reader}
 use Rattle.paging.specs.Counting.{walks_in}
 use Rattle.paging.proofs.CountingLaws.{walks_append}
-use Rattle.rules.specs.declared.Next.{Next}
 use Rattle.rules.specs.Tree.{Ended, store_events}
 use Rattle.rules.specs.Trap.{Final, Effect, none, set_space, deliver, print}
 use Rattle.rules.specs.Clock.{next_of}
@@ -16,6 +16,7 @@ use Rattle.rules.proofs.WalkCounting.{stores_walks}
 use Rattle.walk_bounds.specs.Bounds.{AtMostFive}
 use Rattle.walk_bounds.proofs.OneWalk.{OneWalk, one_buffered, one_reader, tree_walks}
 use Rattle.walk_bounds.proofs.FiveStep.{step_within}
+use Rattle.rules.specs.declared.Key.{Key}
 
 module _ {B : Type 0} {tr : Translator B} (one : OneWalk tr) where
   -- what a step does beyond memory is no walk
@@ -35,7 +36,7 @@ module _ {B : Type 0} {tr : Translator B} (one : OneWalk tr) where
       walks_append (e.events ++ stores) effect ∙ omega (arith, walks_append e.events stores, stores_walks e.grants e.leaf.values, effect_walks e.leaf.effect)
 
   -- a step, with the next key
-  step_by_five : (next : Next) (s : State B) → walks_in (step_by tr next s).events ≤ 5
+  step_by_five : (next : Option Key) (s : State B) → walks_in (step_by tr next s).events ≤ 5
   unfolding step_by
   step_by_five next s =
       let t = step_within next (length s.mem) (length s.console) s.cpu in

@@ -3,8 +3,7 @@
 use Prim.Native.Nat.{ℕ}
 use mathlib.Core.List.{List}
 use native.Mathlib.Omega.{arith}
-use Rattle.double.specs.declared.Cut.{Cut}
-use Rattle.double.specs.declared.Cut.TheVariants.{Unfit, Fits}
+use Rattle.std.specs.Prelude.{Option, None, Some}
 use Rattle.double.specs.Arithmetic.{value_of}
 use Rattle.double.specs.Whole.{cut_signed, cut_unsigned}
 use Rattle.floating_decode.specs.Opcodes.{floating_decode_of}
@@ -27,10 +26,10 @@ floated_within : {n : ℕ} {r : Regs} {v : Floats} {vs : List ℕ} → AtMost n 
 floated_within {n} = within_leaf (omega arith)
 
 -- CDI and CDU complete, or trap
-cut_within : (x : Cut) (r : Regs) (v : Floats) → AtMost 3 (cut_tree x r v)
+cut_within : (x : Option ℕ) (r : Regs) (v : Floats) → AtMost 3 (cut_tree x r v)
 unfolding cut_tree
-cut_within Unfit r v = within_leaf (omega arith)
-cut_within (Fits x) r v = floated_within
+cut_within None r v = within_leaf (omega arith)
+cut_within (Some x) r v = floated_within
 
 -- every floating instruction
 float_within : (i : FloatInstr) (r : Regs) (v : Floats) → AtMost 3 (float_tree i r v)

@@ -1,18 +1,19 @@
 -- Document 02, item 6, "never more than five in a step": the translations of what follows an instruction, and so of a whole step.
+use Rattle.std.proofs.Common.{Option, Some, None}
 use Prim.Native.Nat.{ℕ, suc}
 use native.Mathlib.Omega.{arith}
 use lib.Dec.{ltb}
 use Rattle.decode.specs.declared.SysOp.{SysOp}
 use Rattle.decode.specs.declared.SysOp.TheVariants.{Plain, Rti, Bout, Pdir, Spag}
 use Rattle.paging.specs.declared.Cause.TheVariants.{AddressBeyondMemory}
-use Rattle.paging.specs.TrapCode.{FMEM}
+use Rattle.paging.specs.declared.TrapCode.{TrapCode}
+use Rattle.paging.specs.declared.TrapCode.TheVariants.{Fmem}
 use Rattle.paging.specs.declared.Access.TheVariants.{Read}
 use Rattle.paging.specs.declared.Fault.{Fault}
-use Rattle.paging.specs.TrapCode.{FINST, FPRIV}
+use Rattle.rules.specs.declared.Interrupt.{Interrupt}
+use Rattle.rules.specs.declared.Key.{Key}
+use Rattle.paging.specs.declared.TrapCode.TheVariants.{Finst, Fpriv}
 use Rattle.rules.specs.declared.Cpu.{Cpu}
-use Rattle.rules.specs.declared.Due.{Due}
-use Rattle.rules.specs.declared.Due.TheVariants.{Nothing, Now}
-use Rattle.rules.specs.declared.Next.{Next}
 use Rattle.rules.specs.declared.Pending.{Pending}
 use Rattle.rules.specs.Record.{with_regs, with_fault}
 use Rattle.rules.specs.Tree.{access, Reply, got, denied, Tree, ask, done}
@@ -35,7 +36,7 @@ ends_within : {n : ℕ} {e : Final} → AtMost n (done e)
 ends_within = within_leaf (omega arith)
 
 -- the two slots of a frame
-deliver_within : (c : Cpu) (left : Pending) (code pc : ℕ) → AtMost 2 (deliver_tree c left code pc)
+deliver_within : (c : Cpu) (left : Pending) (code : TrapCode) (pc : ℕ) → AtMost 2 (deliver_tree c left code pc)
 unfolding deliver_tree
 deliver_within c left code pc = within_ask 0 (omega arith) go
   where
@@ -44,7 +45,7 @@ deliver_within c left code pc = within_ask 0 (omega arith) go
     go (denied f) = ends_within
 
 -- a trap, or a stop with 2
-trap_within : (c : Cpu) (code pc : ℕ) → AtMost 2 (trap_tree c code pc)
+trap_within : (c : Cpu) (code : TrapCode) (pc : ℕ) → AtMost 2 (trap_tree c code pc)
 unfolding trap_tree
 trap_within c code pc = within_if c.system.iena (deliver_within c c.clock.pending code pc) ends_within
 
@@ -68,13 +69,13 @@ privileged_within size console_size Rti old c = read_within old (λ code. read_w
 privileged_within size console_size Bout old c = within_if (ltb c.written console_size) ends_within ends_within
 privileged_within size console_size Pdir old c =
     within_if (ltb c.regs.a size) ends_within
-    (within_more 2 4 (omega arith) (fault_within old (record { code = FMEM; cause = AddressBeyondMemory; address = c.regs.a }) (next_pc old)))
+    (within_more 2 4 (omega arith) (fault_within old (record { code = Fmem; cause = AddressBeyondMemory; address = c.regs.a }) (next_pc old)))
 privileged_within size console_size Spag old c = ends_within
 
 system_within : (size console_size : ℕ) (op : SysOp) (c : Cpu) → AtMost 4 (system_tree size console_size op c)
 unfolding system_tree
 system_within size console_size op c =
-    within_if c.system.user (within_more 2 4 (omega arith) (trap_within c FPRIV (next_pc c))) (privileged_within size console_size op c (with_regs (moved c.regs) c))
+    within_if c.system.user (within_more 2 4 (omega arith) (trap_within c Fpriv (next_pc c))) (privileged_within size console_size op c (with_regs (moved c.regs) c))
 
 -- whatever the instruction came to
 settle_within : (size console_size : ℕ) (c : Cpu) (x : Out) → AtMost (rest_of x) (settle_tree size console_size c x)
@@ -85,16 +86,16 @@ settle_within size console_size c (trap code) = trap_within c code (next_pc c)
 settle_within size console_size c (refused f) = fault_within c f (next_pc c)
 settle_within size console_size c (system op) = system_within size console_size op c
 settle_within size console_size c (floated r v vs) = ends_within
-settle_within size console_size c (undecoded w) = within_more 2 3 (omega arith) (trap_within c FINST (next_pc c))
+settle_within size console_size c (undecoded w) = within_more 2 3 (omega arith) (trap_within c Finst (next_pc c))
 
 -- an interrupt is due, or nothing
-due_within : (due : Due) (size console_size : ℕ) (c : Cpu) → AtMost 5 (due_tree due size console_size c)
+due_within : (due : Option Interrupt) (size console_size : ℕ) (c : Cpu) → AtMost 5 (due_tree due size console_size c)
 unfolding due_tree
-due_within (Now i) size console_size c = within_more 2 5 (omega arith) (deliver_within (awake c) (cleared i c.clock.pending) (interrupt_code i) c.regs.pc)
-due_within Nothing size console_size c =
+due_within (Some i) size console_size c = within_more 2 5 (omega arith) (deliver_within (awake c) (cleared i c.clock.pending) (interrupt_code i) c.regs.pc)
+due_within None size console_size c =
     within_if c.system.waiting ends_within (within_then 5 (settle_tree size console_size c) (executed_within c) (settle_within size console_size c))
 
 -- a step: fetch, two operands and the two slots of a frame; or fetch, RTI's two reads and the two slots; a floating instruction has one operand
-pub step_within : (next : Next) (size console_size : ℕ) (c : Cpu) → Within (λ e. 0) 5 (step_tree next size console_size c)
+pub step_within : (next : Option Key) (size console_size : ℕ) (c : Cpu) → Within (λ e. 0) 5 (step_tree next size console_size c)
 unfolding step_tree
 step_within next size console_size c = due_within (due_of (ticked next c)) size console_size (ticked next c)

@@ -1,5 +1,6 @@
 -- Document 02, item 6: a translation makes one table walk at most, in the machine with the page buffer and in the table reader; and a tree of accesses as many as its
 -- translations.
+use Rattle.std.proofs.Common.{Ok, Err}
 use Prim.Native.Nat.{ℕ, ◌+◌, ◌≤◌}
 use mathlib.Core.Path.{◌≡◌, refl}
 use mathlib.Core.Bool.{Bool, true, false}
@@ -8,8 +9,7 @@ use mathlib.Core.Option.{Option, none, some}
 use native.Mathlib.Omega.{arith}
 use Rattle.paging.specs.declared.Entry.{Entry}
 use Rattle.paging.specs.declared.Space.{Space}
-use Rattle.paging.specs.declared.Answer.{Answer}
-use Rattle.paging.specs.declared.Answer.TheVariants.{At, Denied}
+use Rattle.paging.specs.Answer.{Answer}
 use Rattle.paging.specs.Event.{Event}
 use Rattle.paging.specs.Buffer.{hit}
 use Rattle.paging.specs.Translate.{Request, Outcome, Translator, buffered, reader, page_of, refilled, paged_by, paged, translate_by, walked_by, read_by}
@@ -58,15 +58,15 @@ one_reader = record { each = λ s q m b. reader_each s.paging s.pdir q m; emptyi
 module _ {B : Type 0} {tr : Translator B} (one : OneWalk tr) (s : Space) where
   second_walks : (p : ℕ) (es : List Event) (o : Outcome B Answer) (a : Answer) → walks_in (second_slot tr p es o a).events ≡ walks_in es + walks_in o.events
   unfolding second_slot
-  second_walks p es o (At q) = walks_append es o.events
-  second_walks p es o (Denied f) = walks_append es o.events
+  second_walks p es o (Ok q) = walks_append es o.events
+  second_walks p es o (Err f) = walks_append es o.events
 
   first_walks : (va : ℕ) (o : Outcome B Answer) (a : Answer) → walks_in o.events ≤ 1 → walks_in (first_slot tr s va o a).events ≤ 2
   unfolding first_slot
-  first_walks va o (At p) h =
+  first_walks va o (Ok p) h =
       let t = tr.translate s (slot va) o.mem o.buffer in
       omega (arith, second_walks p o.events t t.answer, one.each s (slot va) o.mem o.buffer)
-  first_walks va o (Denied f) h = omega arith
+  first_walks va o (Err f) h = omega arith
 
   -- one ask
   ask_walks : (user : Bool) (q : Ask) (m : List ℕ) (b : B) → walks_in (answered tr s user q m b).events ≤ translations q

@@ -1,14 +1,13 @@
 -- Document 02, item 6: the events of one request of the machine with the page buffer. It makes no walk, or one, which ends in a fault exactly where the access is
 -- denied with paging on, and otherwise keeps one entry.
-use Rattle.std.proofs.Common.{if◌then◌else◌}
+use Rattle.std.proofs.Common.{if◌then◌else◌, Ok, Err}
 use Prim.Native.Nat.{ℕ, suc, ◌+◌}
 use mathlib.Core.Path.{◌≡◌, refl, ◌∙◌}
 use mathlib.Core.Bool.{Bool, true, false}
 use mathlib.Core.List.{List, [], ◌++◌}
 use mathlib.Core.Option.{Option, none, some}
 use native.Mathlib.Omega.{arith}
-use Rattle.paging.specs.declared.Answer.{Answer}
-use Rattle.paging.specs.declared.Answer.TheVariants.{At, Denied}
+use Rattle.paging.specs.Answer.{Answer}
 use Rattle.paging.specs.declared.Entry.{Entry}
 use Rattle.paging.specs.declared.Space.{Space}
 use Rattle.paging.specs.Event.{Event, Words}
@@ -22,8 +21,8 @@ use Rattle.walk_bounds.proofs.Balanced.{Accesses, accesses_none}
 
 -- an answer that is a fault counts as one
 abbrev pub denials : Answer → ℕ
-denials (At p) = 0
-denials (Denied f) = 1
+denials (Ok p) = 0
+denials (Err f) = 1
 
 -- what holds of the events es of a request, with paging on or off, and its answer
 record RequestCounts (paging : Bool) (a : Answer) (es : List Event) : Type 0 where
@@ -40,10 +39,10 @@ ended a fs c w u k f =
       faults = faults;
     }
 
-keep_ended : {es : List Event} (p : ℕ) (room : Bool) (w : Words) → WalkCounts es (keep_events room w) → RequestCounts true (At p) es
+keep_ended : {es : List Event} (p : ℕ) (room : Bool) (w : Words) → WalkCounts es (keep_events room w) → RequestCounts true (Ok p) es
 unfolding walks_in space_set entries_kept faulted_in keep_events
-keep_ended p true w c = ended (At p) _ c refl refl refl refl
-keep_ended p false w c = ended (At p) _ c refl refl refl refl
+keep_ended p true w c = ended (Ok p) _ c refl refl refl refl
+keep_ended p false w c = ended (Ok p) _ c refl refl refl refl
 
 module _ (s : Space) (q : Request) (m : List ℕ) (es : List Entry) where
   abbrev w : Walked

@@ -5,4 +5,3 @@ pub mod SignBit
 pub mod Magnitudes
 pub mod Shift
 pub mod Extension
-pub mod Bounds

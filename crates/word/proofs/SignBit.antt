@@ -1,6 +1,6 @@
--- Sign and magnitude as the code finds them: by the sign bit, and by a difference from 0. Document 02, item 3.
+-- Sign and magnitude of a word by its sign bit and by a difference from 0, and a sign put back by the library's negation. Document 02, item 3.
 use Rattle.std.proofs.Common.{if◌then◌else◌}
-use Prim.Native.Nat.{ℕ, zero, suc, ◌-◌, ◌%◌, ◌^◌, ◌≤◌, ◌<◌}
+use Prim.Native.Nat.{ℕ, zero, suc, ◌+◌, ◌-◌, ◌%◌, ◌^◌, ◌≤◌, ◌<◌}
 use mathlib.Core.Path.{◌≡◌, refl, sym, ap, ◌∙◌}
 use mathlib.Core.Bool.{Bool, true, false}
 use native.Mathlib.Nat.{zero-add, mod-eq_of_lt}
@@ -37,9 +37,8 @@ magnitude_of x h true e =
     from_zero x (omega arith) ∙ m ∙ sym (ap nat_abs z)
 magnitude_of x h false e = sym (ap nat_abs (to_z_pos w32 (leb-false 0x80000000 x (sign_bit x ∙ sym e))))
 
--- and so is a magnitude that gets a minus
-pub sign_put : (b : Bool) (m : ℕ) → (if b then difference 0 m else m) ≡ with_sign b m
+-- the word that makes a multiple of 2^32 with m is that of the negative number
+pub negated : (m : ℕ) {r : ℕ} → r < 2 ^ 32 → m < 2 ^ 32 → (r + m) % 2 ^ 32 ≡ 0 → r ≡ with_sign true m
 unfolding with_sign
-sign_put true zero = refl
-sign_put true (suc n) = from_zero (suc n) (omega arith)
-sign_put false m = refl
+negated zero p q e = omega (arith, p, e)
+negated (suc n) p q e = omega (arith, p, q, e)

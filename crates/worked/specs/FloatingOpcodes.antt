@@ -2,7 +2,8 @@
 -- the instruction at 0 and its frame below sp, 64.
 use Rattle.std.specs.Prelude.{ℕ, zero, suc, ◌+◌, ◌-◌, ◌≡◌, refl, Bool, true, not, ◌&&◌, ◌||◌, List, [], ◌∷◌, eqb, get_or, if◌then◌else◌}
 use Rattle.decode.specs.Illegal.{Range, ◌to◌, floating_point, unassigned, size, within}
-use Rattle.paging.specs.TrapCode.{FINST}
+use Rattle.paging.specs.declared.TrapCode.TheVariants.{Finst}
+use Rattle.paging.specs.TrapCode.{code_number}
 use Rattle.paging.specs.Translate.{buffered}
 use Rattle.rules.specs.declared.Cpu.{Cpu}
 use Rattle.worked.specs.Start.{fresh, put_sp, put_ivec, put_floats, with_doubles, enabled, ◌holds◌, memory}
@@ -35,7 +36,7 @@ unfoldable pub illegal_in : Cpu → ℕ → Bool
 unfolding stepped
 illegal_in c w =
     let t = stepped buffered [] (record { cpu = c; mem = memory 64 (0 holds (w ∷ []) ∷ []); console = []; buffer = [] }) in
-    eqb t.state.cpu.regs.pc 32 && eqb (get_or t.state.mem 48 0) FINST
+    eqb t.state.cpu.regs.pc 32 && eqb (get_or t.state.mem 48 0) (code_number Finst)
 
 -- ---- the tests
 

@@ -2,6 +2,7 @@
 use Rattle.std.specs.Prelude.{ℕ, zero, suc, ◌+◌, ◌-◌, ◌*◌, ◌/◌, ◌%◌, Bool, true, false, List, [], ◌∷◌, ◌++◌, length, replicate}
 use Rattle.paging.specs.declared.Cause.{Cause}
 use Rattle.paging.specs.declared.Entry.{Entry}
+use Rattle.paging.specs.declared.TrapCode.TheVariants.{Fmem}
 use Rattle.rules.specs.declared.Cpu.{Cpu}
 use Rattle.rules.specs.declared.Key.{Key}
 use Rattle.rules.specs.declared.Stop.{Stop}
@@ -76,7 +77,7 @@ stopped_for x c = with_stop x c
 
 -- after a fault: its cause, and its address in vadr
 abbrev pub after_fault : Cause → ℕ → Cpu → Cpu
-after_fault x address c = with_fault (record { code = 0; cause = x; address = address }) c
+after_fault x address c = with_fault (record { code = Fmem; cause = x; address = address }) c
 
 -- document 02, item 7: f and g; and the new mode, the one place in this crate that names every group of the record
 abbrev pub put_floats : (f g : ℕ) → Cpu → Cpu

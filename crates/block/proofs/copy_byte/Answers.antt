@@ -1,39 +1,31 @@
 -- `block::copy_byte` asks for the byte at b and then for that at a, as the tree of MCPY does; each of its ends is an end of that tree.
 use Rattle.contracts.proofs.Laws.{executes_denied, executes_read, executes_written}
 use Rattle.rules.specs.Block.{byte_tree}
-use Rattle.mmu.proofs.Laws.{at_within}
+use Rattle.mmu.proofs.Laws.{at_within, same_access}
 use Rattle.memory.specs.declared.Size.TheVariants.{Byte}
-use native.Mathlib.Omega.{arith}
 use Rattle.block.proofs.copy_byte.Goals as goal
 
-pub returns-in_default : goal.returns-in_default
+pub returns-in_default-clause-executes : goal.returns-in_default-clause-executes
 unfolding byte_tree
-returns-in_default c = search executes_denied
+returns-in_default-clause-executes c = search executes_denied
 
 pub load1-x-requires : goal.load1-x-requires
-load1-x-requires c = search (at_within Byte)
+load1-x-requires c =
+    rw c.bytes.ensures (at_within Byte c.args.bus.now.good c.translate-p.ensures.answer c.in-Ok.is)
 
-pub returns-in_default-q : goal.returns-in_default-q
+pub returns-in_default-q-clause-executes : goal.returns-in_default-q-clause-executes
 unfolding byte_tree
-returns-in_default-q c =
-    executes_read c.translate-p.ensures c.in-At.is c.load1-x.ensures
-    (executes_denied c.translate-q.ensures c.in_default-q.is c.refused-in_default-q.ensures)
+returns-in_default-q-clause-executes c =
+    executes_read c.translate-p.ensures.answer c.in-Ok.is (rw c.bytes.ensures at c.load1-x.ensures)
+    (executes_denied (same_access c.translate-p.ensures.bus c.translate-q.ensures.answer) c.in_default-q.is c.refused-in_default-q.ensures)
 
 pub store-requires : goal.store-requires
 store-requires c =
-    at_within Byte c.translate-p.ensures.good c.translate-q.ensures c.in-At-q.is
+    at_within Byte c.translate-p.ensures.answer.good (same_access c.translate-p.ensures.bus c.translate-q.ensures.answer) c.in-Ok-q.is
 
-pub shape_of-mem : goal.shape_of-mem
-shape_of-mem c =
-    omega (arith, c.store.auto.mem, c.translate-q.auto.mem, c.translate-p.auto.mem)
-
-pub shape_of-tlb : goal.shape_of-tlb
-shape_of-tlb c =
-    omega (arith, c.translate-q.auto.tlb, c.translate-p.auto.tlb)
-
-pub returns : goal.returns
+pub returns-clause-executes : goal.returns-clause-executes
 unfolding byte_tree
-returns c =
-    executes_read c.translate-p.ensures c.in-At.is c.load1-x.ensures
-    (executes_written c.translate-q.ensures c.in-At-q.is (rw (c.fine.ensures, c.again_both.ensures))
+returns-clause-executes c =
+    executes_read c.translate-p.ensures.answer c.in-Ok.is (rw c.bytes.ensures at c.load1-x.ensures)
+    (executes_written (same_access c.translate-p.ensures.bus c.translate-q.ensures.answer) c.in-Ok-q.is (rw (c.fine.ensures, c.again_both.ensures))
     c.store.ensures)

@@ -6,17 +6,17 @@ use Rattle.mmu.proofs.Laws.{at_within}
 use Rattle.memory.specs.declared.Size.TheVariants.{Byte}
 use Rattle.block.proofs.search_byte.Goals as goal
 
-pub returns-in_default : goal.returns-in_default
+pub returns-in_default-clause-executes : goal.returns-in_default-clause-executes
 unfolding byte_tree
-returns-in_default c =
-    executes_denied c.translate-p.ensures c.in_default.is c.refused.ensures
+returns-in_default-clause-executes c =
+    executes_denied c.translate-p.ensures.answer c.in_default.is c.refused.ensures
 
 pub load1-x-requires : goal.load1-x-requires
 load1-x-requires c =
-    at_within Byte c.requires c.translate-p.ensures c.in-At.is
+    rw c.bytes.ensures (at_within Byte c.args.bus.now.good c.translate-p.ensures.answer c.in-Ok.is)
 
-pub returns : goal.returns
+pub returns-clause-executes : goal.returns-clause-executes
 unfolding byte_tree
-returns c =
-    executes_read c.translate-p.ensures c.in-At.is c.load1-x.ensures
-    (executes_fine c.translate-p.ensures.good (rw (c.fine.ensures, c.searched.ensures)))
+returns-clause-executes c =
+    executes_read c.translate-p.ensures.answer c.in-Ok.is (rw c.bytes.ensures at c.load1-x.ensures)
+    (executes_fine c.translate-p.ensures.answer.good (rw (c.fine.ensures, c.searched.ensures)))

@@ -5,16 +5,16 @@ use Rattle.mmu.proofs.Laws.{at_within}
 use Rattle.memory.specs.declared.Size.TheVariants.{Byte}
 use Rattle.block.proofs.set_byte.Goals as goal
 
-pub returns-in_default : goal.returns-in_default
+pub returns-in_default-clause-executes : goal.returns-in_default-clause-executes
 unfolding byte_tree
-returns-in_default c =
-    executes_denied c.translate-p.ensures c.in_default.is c.refused.ensures
+returns-in_default-clause-executes c =
+    executes_denied c.translate-p.ensures.answer c.in_default.is c.refused.ensures
 
 pub store-requires : goal.store-requires
 store-requires c =
-    at_within Byte c.requires c.translate-p.ensures c.in-At.is
+    at_within Byte c.args.bus.now.good c.translate-p.ensures.answer c.in-Ok.is
 
-pub returns : goal.returns
+pub returns-clause-executes : goal.returns-clause-executes
 unfolding byte_tree
-returns c =
-    executes_written c.translate-p.ensures c.in-At.is (rw (c.fine.ensures, c.again.ensures)) c.store.ensures
+returns-clause-executes c =
+    executes_written c.translate-p.ensures.answer c.in-Ok.is (rw (c.fine.ensures, c.again.ensures)) c.store.ensures

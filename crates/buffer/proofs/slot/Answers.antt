@@ -7,10 +7,10 @@ pub returns-then-i-count : goal.returns-then-i-count
 returns-then-i-count c =
     slot_past c.args.tlb.now c.args.i _ _ _ (omega arith)
 
-pub returns-then-ok : goal.returns-then-ok
-returns-then-ok c =
-    slot_serves c.args.tlb.now c.args.i _ _ _ (omega arith) c.serves.ensures c.if-ok.true
+pub returns-then-e-page : goal.returns-then-e-page
+returns-then-e-page c =
+    slot_serves c.args.tlb.now c.args.i _ _ _ (omega arith) c.serves.ensures c.if-e-page.true
 
-pub returns-else-ok : goal.returns-else-ok
-returns-else-ok c =
-    slot_refuses c.args.tlb.now c.args.i _ _ _ (omega arith) c.serves.ensures c.if-ok.false
+pub returns-else-e-page : goal.returns-else-e-page
+returns-else-e-page c =
+    slot_refuses c.args.tlb.now c.args.i _ _ _ (omega arith) c.serves.ensures c.if-e-page.false

@@ -1,6 +1,6 @@
 -- The rule of both cuts, with CDI's limits and word (`signed_cut`).
 use Rattle.std.proofs.Common.{ap, ◌∙◌}
-use Rattle.double.specs.declared.Cut.TheVariants.{Fits}
+use Rattle.std.specs.Prelude.{Some}
 use Rattle.double.proofs.Cuts.{signed_cut, cut_large, cut_over, cut_fits, cut_word}
 use Rattle.double.proofs.cut_signed.Goals as goal
 
@@ -16,4 +16,4 @@ overflow_cast-n c =
 
 pub returns : goal.returns
 returns c =
-    ap Fits c.with_sign.ensures ∙ cut_fits signed_cut _ c.if-m-ge-TWO_52.false c.whole-n.ensures c.limit.ensures c.if-limit-n.false
+    ap Some c.with_sign.ensures ∙ cut_fits signed_cut _ c.if-m-ge-TWO_52.false c.whole-n.ensures c.limit.ensures c.if-limit-n.false

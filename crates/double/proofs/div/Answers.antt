@@ -1,19 +1,9 @@
--- A NaN operand gives the NaN (`nan_result`); else the operation is the definition's.
+-- A NaN operand gives the NaN (`patterns`, `div_strict`); else the operation is the definition's (`over_numbers`).
 use Rattle.std.proofs.Common.{rules}
 use Rattle.double.specs.Arithmetic.{quotient_of}
-use Rattle.double.proofs.Nan.{div_strict, nan_result, left_number, right_number}
+use Rattle.double.proofs.Nan.{div_strict, patterns, over_numbers}
 use Rattle.double.proofs.div.Goals as goal
-
-pub returns-then-some_nan : goal.returns-then-some_nan
-unfolding quotient_of
-returns-then-some_nan c = nan_result _ _ c.some_nan.ensures div_strict c.if-some_nan.true
-
-pub float_from_bits-x : goal.float_from_bits-x
-float_from_bits-x c = left_number _ _ c.some_nan.ensures c.if-some_nan.false
-
-pub float_from_bits-y : goal.float_from_bits-y
-float_from_bits-y c = right_number _ _ c.some_nan.ensures c.if-some_nan.false
 
 pub returns : goal.returns
 unfolding quotient_of
-returns c = search rules
+returns c = over_numbers c.args.x c.args.y (patterns div_strict) _ _ _ c.numbers.ensures c.map_or.ensures (λ q k. search rules)

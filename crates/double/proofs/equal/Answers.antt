@@ -1,20 +1,10 @@
--- A NaN operand gives false (`strict_at`); else the comparison is the definition's.
+-- A NaN operand gives false (`eq_strict`); else the comparison is the definition's (`over_numbers`).
 use Rattle.std.proofs.Common.{rules}
 use lib.Ieee.{eq}
 use Rattle.double.specs.Comparison.{equals}
-use Rattle.double.proofs.Nan.{eq_strict, strict_at, left_number, right_number}
+use Rattle.double.proofs.Nan.{eq_strict, over_numbers}
 use Rattle.double.proofs.equal.Goals as goal
-
-pub returns-then-some_nan : goal.returns-then-some_nan
-unfolding equals
-returns-then-some_nan c = strict_at _ _ c.some_nan.ensures eq_strict c.if-some_nan.true
-
-pub float_from_bits-result : goal.float_from_bits-result
-float_from_bits-result c = left_number _ _ c.some_nan.ensures c.if-some_nan.false
-
-pub float_from_bits-result-2 : goal.float_from_bits-result-2
-float_from_bits-result-2 c = right_number _ _ c.some_nan.ensures c.if-some_nan.false
 
 pub returns : goal.returns
 unfolding equals eq
-returns c = search rules
+returns c = over_numbers c.args.x c.args.y eq_strict _ _ _ c.numbers.ensures c.is_some_and.ensures (λ q k. search rules)

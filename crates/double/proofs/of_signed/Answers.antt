@@ -10,4 +10,4 @@ float_to_bits-result c = int_number _
 
 pub returns : goal.returns
 unfolding of_signed
-returns c = rw (c.signed.ensures, of_z-to_z {w = w32} {n = c.args.a} (record { fits = omega arith }))
+returns c = rw (c.cast_signed.ensures, of_z-to_z {w = w32} {n = c.args.a} (record { fits = omega arith }))

@@ -1,5 +1,5 @@
--- A turn fills one more slot from the file (`slots_on`); past the last the slots are those that are asked (`slots_end`).
-use Rattle.encoding.proofs.Entries.{slots_on, slots_end}
+-- A turn fills one more slot from the file (`slots_on`).
+use Rattle.encoding.proofs.Entries.{slots_on}
 use Rattle.encoding.specs.Entries.{entries_in}
 use mathlib.Core.Path.{refl}
 use native.Mathlib.Omega.{arith}
@@ -7,10 +7,7 @@ use Rattle.encoding.proofs.slots_at.Goals as goal
 
 pub loop-i-init : goal.loop-i-init
 unfolding entries_in
-loop-i-init c = (refl, omega arith)
+loop-i-init c = refl
 
 pub loop-i-preserved : goal.loop-i-preserved
-loop-i-preserved c = (slots_on _ _ _ (omega arith) c.entry_at.ensures c.loop-i.invariant.0, omega arith)
-
-pub returns : goal.returns
-returns c = slots_end _ _ _ _ c.loop-i.invariant.1 c.loop-i-test.false c.loop-i.invariant.0
+loop-i-preserved c = slots_on _ _ _ (omega arith) c.entry_at.ensures c.loop-i.invariant

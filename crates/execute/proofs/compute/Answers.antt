@@ -7,4 +7,4 @@ returns-in_default c =
 
 pub returns : goal.returns
 returns c =
-    rw (c.fine.ensures, c.put.ensures, ← c.compute.ensures, c.in-Value.is)
+    rw (c.fine.ensures, c.put.ensures, ← c.compute.ensures, c.in-Some.is)

@@ -2,10 +2,10 @@
 use Rattle.floating.proofs.EightBytes.{eight_at, eight_denied}
 use Rattle.floating.proofs.translate_double.Goals as goal
 
-pub returns-in-At : goal.returns-in-At
-returns-in-At c =
-    eight_at c.translate-p.ensures c.in-At.is
+pub returns-in_default-clause-answer : goal.returns-in_default-clause-answer
+returns-in_default-clause-answer c =
+    rw c.in_default.is (eight_denied c.translate-p.ensures.answer c.in_default.is)
 
-pub returns-in-Denied : goal.returns-in-Denied
-returns-in-Denied c =
-    eight_denied c.translate-p.ensures c.in-Denied.is
+pub returns-clause-answer : goal.returns-clause-answer
+returns-clause-answer c =
+    eight_at c.translate-p.ensures.answer c.in-Ok.is

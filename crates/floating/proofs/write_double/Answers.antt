@@ -4,14 +4,14 @@ use Rattle.floating.proofs.EightBytes.{eight_within}
 use Rattle.contracts.proofs.FloatLaws.{floats_denied, floats_stored}
 use Rattle.floating.proofs.write_double.Goals as goal
 
-pub returns-in_default : goal.returns-in_default
-returns-in_default c =
-    floats_denied c.translate_double-p.ensures c.in_default.is c.fault_of.ensures c.ended.ensures
+pub returns-in_default-clause-executes : goal.returns-in_default-clause-executes
+returns-in_default-clause-executes c =
+    floats_denied c.translate_double-p.ensures.answer c.in_default.is c.fault_of.ensures c.ended.ensures
 
-pub store8-requires : goal.store8-requires
-store8-requires c =
-    eight_within c.requires c.translate_double-p.ensures c.in-At.is
+pub store_bytes-requires-clause-within : goal.store_bytes-requires-clause-within
+store_bytes-requires-clause-within c =
+    eight_within c.args.bus.now.good c.translate_double-p.ensures.answer c.in-Ok.is
 
-pub returns : goal.returns
-returns c =
-    floats_stored c.translate_double-p.ensures c.in-At.is c.fine.ensures c.store8.ensures
+pub returns-clause-executes : goal.returns-clause-executes
+returns-clause-executes c =
+    floats_stored c.translate_double-p.ensures.answer c.in-Ok.is c.fine.ensures c.store_bytes.ensures

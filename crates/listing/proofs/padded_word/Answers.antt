@@ -4,4 +4,4 @@ use Rattle.listing.proofs.padded_word.Goals as goal
 
 pub returns : goal.returns
 returns c =
-    four_bytes _ _ c.byte.ensures c.byte-2.ensures c.byte-3.ensures c.byte-4.ensures
+    four_bytes _ _ c.byte.ensures c.byte-2.ensures c.byte-3.ensures c.byte-4.ensures c.from_le_bytes.ensures

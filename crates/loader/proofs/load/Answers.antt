@@ -6,8 +6,8 @@ use Rattle.loader.proofs.Accepted.{refused, accepted_file, accepted}
 use native.Mathlib.Omega.{arith}
 use Rattle.loader.proofs.load.Goals as goal
 
-pub returns-then-load_number-ne0 : goal.returns-then-load_number-ne0
-returns-then-load_number-ne0 c = search refused
+pub returns-then-is_err : goal.returns-then-is_err
+returns-then-is_err c = search refused
 
 pub fill-requires : goal.fill-requires
 fill-requires c = search accepted_file
@@ -22,5 +22,5 @@ overflow_cast-size c =
 
 pub returns : goal.returns
 returns c =
-    accepted _ _ c.judge-answer.ensures c.load_number.ensures c.if-load_number-ne0.false c.fill.ensures c.load4-entry.ensures c.cpu_with-2.ensures
+    accepted _ _ c.judge-answer.ensures c.is_err.ensures.value c.if-is_err.false c.fill.ensures c.load4-entry.ensures c.cpu_with-2.ensures
     c.empty_machine-2.ensures

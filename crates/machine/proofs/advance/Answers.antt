@@ -27,11 +27,12 @@ floating_burst-b-requires c =
 
 pub finish-requires : goal.finish-requires
 finish-requires c =
-    rw (c.with_floats-x.ensures, c.ended.ensures) (c.floating_burst-b.ensures.good, ends_within _ _ _ c.steps-n.ensures (omega (arith, c.if-n-eq0.false)) c.floating_burst-b.ensures c.requires.0.count)
+    rw (c.with_floats-x.ensures, c.ended-d.ensures)
+    (c.floating_burst-b.ensures.good, ends_within _ _ _ c.steps-n.ensures (omega (arith, c.if-n-eq0.false)) c.floating_burst-b.ensures c.requires.0.count)
 
 pub returns-then-c : goal.returns-then-c
 returns-then-c c =
-    let end = rw (c.with_floats-x.ensures, c.ended.ensures) at c.finish.ensures in
+    let end = rw (c.with_floats-x.ensures, c.ended-d.ensures) at c.finish.ensures in
     advance_finishes _ _ _ c.requires.0 c.steps-n.ensures (omega (arith, c.if-n-eq0.false)) c.floating_burst-b.ensures c.floating_burst-b.auto.mem end
     c.finish.auto.mem
 

@@ -9,13 +9,13 @@ pub deliver-requires : goal.deliver-requires
 deliver-requires c =
     good_awake _ _ c.tick-t.ensures c.requires.good c.awake.ensures
 
-pub returns-in-Now : goal.returns-in-Now
-returns-in-Now c =
-    step_due _ _ c.tick-t.ensures c.due_trap-d.ensures c.in-Now.is c.cleared-left.ensures c.interrupt_code-code.ensures c.awake.ensures (c.deliver.ensures _)
+pub returns-in-Some : goal.returns-in-Some
+returns-in-Some c =
+    step_due _ _ c.tick-t.ensures c.due_trap.ensures c.in-Some.is c.cleared-left.ensures c.from-code.ensures c.awake.ensures (c.deliver.ensures _)
 
 pub returns-then-t : goal.returns-then-t
 returns-then-t c =
-    step_waits _ _ c.tick-t.ensures c.due_trap-d.ensures c.in_default.is c.if-t.true refl (good_ticked _ _ c.tick-t.ensures c.requires.good)
+    step_waits _ _ c.tick-t.ensures c.due_trap.ensures c.in_default.is c.if-t.true refl (good_ticked _ _ c.tick-t.ensures c.requires.good)
 
 pub floating_burst-b-requires : goal.floating_burst-b-requires
 floating_burst-b-requires c =
@@ -31,8 +31,8 @@ shape_of-mem-then-c c =
 
 pub returns-then-c : goal.returns-then-c
 returns-then-c c =
-    let end = rw (c.with_floats-x.ensures, c.ended.ensures) at c.settle.ensures in
-    step_executes _ _ c.tick-t.ensures c.due_trap-d.ensures c.in_default.is c.if-t.false c.floating_burst-b.auto.mem c.floating_burst-b.ensures end
+    let end = rw (c.with_floats-x.ensures, c.ended-d.ensures) at c.settle.ensures in
+    step_executes _ _ c.tick-t.ensures c.due_trap.ensures c.in_default.is c.if-t.false c.floating_burst-b.auto.mem c.floating_burst-b.ensures end
 
 pub settle-requires-2 : goal.settle-requires-2
 settle-requires-2 c =
@@ -41,4 +41,4 @@ settle-requires-2 c =
 pub returns : goal.returns
 returns c =
     let end = old_end _ _ _ _ c.if-c.false c.instructions-b.auto.mem (c.instructions-b.ensures c.args.c refl refl refl) in
-    step_executes_old _ _ c.tick-t.ensures c.due_trap-d.ensures c.in_default.is c.if-t.false c.instructions-b.auto.mem end c.settle-2.ensures
+    step_executes_old _ _ c.tick-t.ensures c.due_trap.ensures c.in_default.is c.if-t.false c.instructions-b.auto.mem end c.settle-2.ensures

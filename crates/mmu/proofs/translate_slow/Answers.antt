@@ -10,12 +10,12 @@ returns-then-addr-mem c =
 
 pub returns-then-not-paging : goal.returns-then-not-paging
 returns-then-not-paging c =
-    translate_beyond _ _ _ _ c.requires c.if-not-paging.true c.if-addr-mem.false c.denied.ensures
+    translate_beyond _ _ _ _ c.requires c.if-not-paging.true c.if-addr-mem.false (rw c.denied.ensures)
 
-pub returns-in_default : goal.returns-in_default
-returns-in_default c =
-    translate_miss _ _ _ _ c.requires c.ranges.addr.fits c.if-not-paging.false _ c.slot-hit.ensures c.in_default.is c.lookup-i.ensures c.refill.ensures
+pub returns-in-None : goal.returns-in-None
+returns-in-None c =
+    translate_miss _ _ _ _ c.requires c.ranges.addr.fits c.if-not-paging.false _ c.slot.ensures c.in-None.is c.lookup-i.ensures c.refill.ensures
 
-pub returns : goal.returns
-returns c =
-    translate_hit _ _ _ _ c.requires (omega arith) c.if-not-paging.false _ c.slot-hit.ensures c.in-Frame.is c.in_frame.ensures
+pub returns-in-Some : goal.returns-in-Some
+returns-in-Some c =
+    translate_hit _ _ _ _ c.requires (omega arith) c.if-not-paging.false _ c.slot.ensures c.in-Some.is c.in_frame.ensures

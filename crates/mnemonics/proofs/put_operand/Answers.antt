@@ -3,7 +3,7 @@ use Rattle.mnemonics.proofs.Lines.{no_operand, number_operand, target_operand}
 use Rattle.mnemonics.proofs.put_operand.Goals as goal
 
 pub returns-in-Nothing : goal.returns-in-Nothing
-returns-in-Nothing c = no_operand _ _ _ _ c.in-Nothing.is
+returns-in-Nothing c = no_operand _ _ _ c.in-Nothing.is
 
 pub returns-in-Immediate : goal.returns-in-Immediate
 returns-in-Immediate c =

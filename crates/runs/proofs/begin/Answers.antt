@@ -4,4 +4,4 @@ use Rattle.runs.proofs.begin.Goals as goal
 
 pub returns : goal.returns
 returns c =
-    begins _ _ _ _ _ _ c.refusal-answer.ensures c.allowance.ensures c.left_of-left.ensures
+    begins _ _ _ _ _ _ c.refusal-answer.ensures c.allowance.ensures c.left_of.ensures

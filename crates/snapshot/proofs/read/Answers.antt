@@ -3,8 +3,8 @@
 use Rattle.snapshot.proofs.Reading.{refused, with_header, readable, with_blocks, accepted}
 use Rattle.snapshot.proofs.read.Goals as goal
 
-pub returns-then-read_number-ne0 : goal.returns-then-read_number-ne0
-returns-then-read_number-ne0 c = search refused
+pub returns-then-is_err : goal.returns-then-is_err
+returns-then-is_err c = search refused
 
 pub counts_at-k-requires : goal.counts_at-k-requires
 counts_at-k-requires c = search with_header
@@ -17,4 +17,4 @@ machine_at-requires c = search with_blocks
 
 pub returns : goal.returns
 returns c =
-    accepted _ _ _ c.judge_read-answer.ensures c.read_number.ensures c.if-read_number-ne0.false c.counts_at-k.ensures c.unpack.ensures c.machine_at.ensures
+    accepted _ _ _ c.judge_read-answer.ensures c.is_err.ensures.value c.if-is_err.false c.counts_at-k.ensures c.unpack.ensures c.machine_at.ensures

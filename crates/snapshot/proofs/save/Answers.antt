@@ -2,8 +2,8 @@
 use Rattle.snapshot.proofs.Saving.{refused, savable, accepted}
 use Rattle.snapshot.proofs.save.Goals as goal
 
-pub returns-then-save_number-ne0 : goal.returns-then-save_number-ne0
-returns-then-save_number-ne0 c = search refused
+pub returns-then-is_err : goal.returns-then-is_err
+returns-then-is_err c = search refused
 
 pub write-length-requires : goal.write-length-requires
 write-length-requires c = search savable

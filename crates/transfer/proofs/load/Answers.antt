@@ -6,18 +6,18 @@ use Rattle.rules.specs.Transfer.{load_tree}
 use Rattle.mmu.proofs.Laws.{at_within}
 use Rattle.transfer.proofs.load.Goals as goal
 
-pub returns-in_default : goal.returns-in_default
+pub returns-in_default-clause-executes : goal.returns-in_default-clause-executes
 unfolding load_tree
-returns-in_default c =
-    rw (← c.size-s.ensures, ← c.base.ensures, ← c.sum-va.ensures) (executes_denied c.translate-p.ensures c.in_default.is c.refused.ensures)
+returns-in_default-clause-executes c =
+    rw (← c.size-s.ensures, ← c.base.ensures, ← c.sum-va.ensures) (executes_denied c.translate-p.ensures.answer c.in_default.is c.refused.ensures)
 
 pub value-v-requires : goal.value-v-requires
 value-v-requires c =
-    rw (← c.size-s.ensures) (at_within c.size-s.result c.requires c.translate-p.ensures c.in-At.is)
+    rw (c.bytes.ensures, ← c.size-s.ensures) (at_within c.size-s.result c.args.bus.now.good c.translate-p.ensures.answer c.in-Ok.is)
 
-pub returns : goal.returns
+pub returns-clause-executes : goal.returns-clause-executes
 unfolding load_tree
-returns c =
+returns-clause-executes c =
     rw (← c.size-s.ensures, ← c.base.ensures, ← c.sum-va.ensures)
-    (executes_read c.translate-p.ensures c.in-At.is refl
-    (executes_fine c.translate-p.ensures.good (rw (c.fine.ensures, c.put.ensures, c.value-v.ensures, c.size-s.ensures))))
+    (executes_read c.translate-p.ensures.answer c.in-Ok.is refl
+    (executes_fine c.translate-p.ensures.answer.good (rw (c.fine.ensures, c.put.ensures, c.value-v.ensures, c.bytes.ensures, c.size-s.ensures))))

@@ -6,15 +6,16 @@ use Rattle.mmu.proofs.Laws.{at_within}
 use Rattle.memory.specs.declared.Size.TheVariants.{Word}
 use Rattle.transfer.proofs.pop.Goals as goal
 
-pub returns-in_default : goal.returns-in_default
+pub returns-in_default-clause-executes : goal.returns-in_default-clause-executes
 unfolding pop_tree
-returns-in_default c = search executes_denied
+returns-in_default-clause-executes c = search executes_denied
 
 pub load4-v-requires : goal.load4-v-requires
-load4-v-requires c = search (at_within Word)
+load4-v-requires c =
+    rw c.bytes.ensures (at_within Word c.args.bus.now.good c.translate-p.ensures.answer c.in-Ok.is)
 
-pub returns : goal.returns
+pub returns-clause-executes : goal.returns-clause-executes
 unfolding pop_tree
-returns c =
-    executes_read c.translate-p.ensures c.in-At.is c.load4-v.ensures
-    (executes_fine c.translate-p.ensures.good (rw (c.fine.ensures, c.put-n.ensures, c.sum.ensures)))
+returns-clause-executes c =
+    executes_read c.translate-p.ensures.answer c.in-Ok.is (rw c.bytes.ensures at c.load4-v.ensures)
+    (executes_fine c.translate-p.ensures.answer.good (rw (c.fine.ensures, c.put-n.ensures, c.sum.ensures)))

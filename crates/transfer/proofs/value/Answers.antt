@@ -28,13 +28,13 @@ pub returns-in-Uint : goal.returns-in-Uint
 returns-in-Uint c = format_value c.in-Uint.is _ _ c.load4.ensures
 
 pub returns-in-Short : goal.returns-in-Short
-returns-in-Short c = format_value c.in-Short.is _ _ (c.extend16.ensures ∙ ap (extend 16) c.load2.ensures)
+returns-in-Short c = format_value c.in-Short.is _ _ (c.extend.ensures ∙ ap (extend 16) c.load2.ensures)
 
 pub returns-in-Ushort : goal.returns-in-Ushort
 returns-in-Ushort c = format_value c.in-Ushort.is _ _ c.load2-in-Ushort.ensures
 
 pub returns-in-Char : goal.returns-in-Char
-returns-in-Char c = format_value c.in-Char.is _ _ (c.extend8.ensures ∙ ap (extend 8) c.load1.ensures)
+returns-in-Char c = format_value c.in-Char.is _ _ (c.extend-in-Char.ensures ∙ ap (extend 8) c.load1.ensures)
 
 pub returns-in-Uchar : goal.returns-in-Uchar
 returns-in-Uchar c = format_value c.in-Uchar.is _ _ c.load1-in-Uchar.ensures

@@ -2,10 +2,6 @@
 use Rattle.trap.proofs.Delivery.{fault_trapped}
 use Rattle.trap.proofs.fault.Goals as goal
 
-pub trap-requires : goal.trap-requires
-trap-requires c =
-    rw c.with_fault.ensures c.requires
-
 pub returns : goal.returns
 returns c =
     λ con. fault_trapped _ _ c.with_fault.ensures (c.trap.ensures con)

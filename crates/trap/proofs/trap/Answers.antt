@@ -8,4 +8,4 @@ returns-then-c c =
 
 pub returns : goal.returns
 returns c =
-    λ con. trap_masked _ _ _ c.masked.ensures c.if-c.false c.requires
+    λ con. trap_masked _ _ _ c.stopped.ensures c.if-c.false c.requires

@@ -7,13 +7,13 @@ use Rattle.walk.proofs.mark_for.Goals as goal
 pub mark-requires : goal.mark-requires
 mark-requires c = (search rules, refl)
 
-pub mark-requires-then-write : goal.mark-requires-then-write
-mark-requires-then-write c = (search rules, refl)
+pub mark-requires-then-writes : goal.mark-requires-then-writes
+mark-requires-then-writes c = (search rules, refl)
 
-pub returns-then-write : goal.returns-then-write
-returns-then-write c =
-    mark_write _ _ _ (sym c.writes-write.ensures ∙ c.if-write.true) c.mark.ensures c.mark-then-write.ensures
+pub returns-then-writes : goal.returns-then-writes
+returns-then-writes c =
+    mark_write _ _ _ (sym c.writes.ensures ∙ c.if-writes.true) c.mark.ensures c.mark-then-writes.ensures
 
-pub returns-else-write : goal.returns-else-write
-returns-else-write c =
-    mark_read _ _ _ (sym c.writes-write.ensures ∙ c.if-write.false) c.mark.ensures
+pub returns-else-writes : goal.returns-else-writes
+returns-else-writes c =
+    mark_read _ _ _ (sym c.writes.ensures ∙ c.if-writes.false) c.mark.ensures

@@ -6,17 +6,17 @@ use borrow.Author.Rules.{rules}
 use Rattle.walk.proofs.Stages.{dir_absent, dir_beyond, dir_present}
 use Rattle.walk.proofs.walk.Goals as goal
 
-pub returns-then-not-present : goal.returns-then-not-present
-returns-then-not-present c =
-    dir_absent _ _ _ _ _ c.load4-dir.ensures c.bit-present.ensures c.if-not-present.true c.page_fault.ensures
+pub returns-then-not-bit : goal.returns-then-not-bit
+returns-then-not-bit c =
+    dir_absent _ _ _ _ _ c.load4-dir.ensures c.bit.ensures c.if-not-bit.true c.page_fault.ensures
 
 pub mark-requires : goal.mark-requires
 mark-requires c = (search rules, refl)
 
 pub returns-then-table-mem : goal.returns-then-table-mem
 returns-then-table-mem c =
-    dir_beyond _ _ _ _ _ c.load4-dir.ensures c.bit-present.ensures c.if-not-present.false c.mark.ensures (omega arith)
+    dir_beyond _ _ _ _ _ c.load4-dir.ensures c.bit.ensures c.if-not-bit.false c.mark.ensures (omega arith)
 
 pub returns : goal.returns
 returns c =
-    dir_present _ _ _ _ _ c.load4-dir.ensures c.bit-present.ensures c.if-not-present.false c.mark.ensures (omega arith) c.walk_table.ensures
+    dir_present _ _ _ _ _ c.load4-dir.ensures c.bit.ensures c.if-not-bit.false c.mark.ensures (omega arith) c.walk_table.ensures

@@ -1,10 +1,10 @@
--- Comparing the two i32 is comparing the signed readings of the words (`on_signed`).
-use lib.Signed.{lt_z}
+-- Comparing the two i32 is comparing the signed readings of the words (`read_back`).
+use mathlib.Core.Path.{refl}
 use Rattle.word.specs.Word.{less_signed}
-use Rattle.word.proofs.Conversion.{on_signed}
+use Rattle.word.proofs.Conversion.{read_back}
 use Rattle.word.proofs.less_signed.Goals as goal
 
 pub returns : goal.returns
 unfolding less_signed
 returns c =
-    on_signed c.ranges.x c.ranges.y c.signed.ensures c.signed-2.ensures lt_z
+    rw (read_back c.args.x c.cast_signed.type_inv c.cast_signed.ensures, read_back c.args.y c.cast_signed-2.type_inv c.cast_signed-2.ensures) refl

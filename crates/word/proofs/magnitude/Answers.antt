@@ -1,13 +1,10 @@
--- A negative word is taken from 0, any other is its own magnitude (`magnitude_of`).
-use mathlib.Core.Path.{sym, ◌∙◌}
-use mathlib.Core.Bool.{true, false}
-use Rattle.word.proofs.SignBit.{magnitude_of}
+-- The word's signed reading, which the i32 holds (`read_back`), has the magnitude that the library's method gives.
+use mathlib.Core.Path.{ap, ◌∙◌}
+use lib.IntN.{nat_abs}
+use Rattle.word.specs.Magnitude.{magnitude}
+use Rattle.word.proofs.Conversion.{read_back}
 use Rattle.word.proofs.magnitude.Goals as goal
 
-pub returns-then-negative : goal.returns-then-negative
-returns-then-negative c =
-    c.difference.ensures ∙ magnitude_of c.args.x c.ranges.x.fits true (sym c.if-negative.true ∙ c.negative.ensures)
-
-pub returns-else-negative : goal.returns-else-negative
-returns-else-negative c =
-    magnitude_of c.args.x c.ranges.x.fits false (sym c.if-negative.false ∙ c.negative.ensures)
+pub returns : goal.returns
+unfolding magnitude
+returns c = c.unsigned_abs.ensures.value ∙ ap nat_abs (read_back c.args.x c.cast_signed.type_inv c.cast_signed.ensures)

@@ -1,14 +1,17 @@
--- The i32 is shifted by a count below 32, stays in its range (`shift_fits`), and its word is the rule's (`signed_result`).
-use Prim.Native.Nat.{◌^◌, ◌%◌}
+-- The i32 reads back as the word's signed reading (`read_back`), and shifted it stays in its range.
+use Prim.Native.Nat.{◌%◌}
+use mathlib.Core.Path.{◌∙◌, ap}
 use lib.IntN.{ℤ}
-use lib.Signed.{shr_z}
+use mir.Syntax.{w32}
+use mir.Val.{of_z}
+use mir.Facts.{to_z-of_z}
+use Rattle.std.specs.Int.{int_shr}
 use Rattle.word.specs.Word.{shift_right, shift_count}
-use Rattle.word.proofs.Conversion.{signed_result}
-use Rattle.word.proofs.Shift.{shift_fits}
+use Rattle.word.proofs.Conversion.{read_back}
 use Rattle.word.proofs.shift_right.Goals as goal
 
 pub returns : goal.returns
 unfolding shift_right shift_count
 returns c =
-    let power = 2 ^ (c.args.count % 32) in
-    signed_result c.ranges.x c.ranges.x c.signed.ensures c.signed.ensures (λ (z d : ℤ). shr_z z power) (shift_fits power c.ranges.x) c.unsigned.ensures
+    c.cast_unsigned.ensures ∙ ap (of_z w32) (to_z-of_z {w = w32} (record { sfits = c.wrapping_shr.type_inv }) ∙ c.wrapping_shr.ensures
+    ∙ ap (λ (z : ℤ). int_shr z (c.args.count % 32)) (read_back c.args.x c.cast_signed.type_inv c.cast_signed.ensures))

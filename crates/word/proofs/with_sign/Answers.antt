@@ -1,11 +1,12 @@
--- Minus a magnitude is taken from 0 (`sign_put`).
-use mathlib.Core.Path.{◌∙◌}
-use mathlib.Core.Bool.{true, false}
-use Rattle.word.proofs.SignBit.{sign_put}
+-- A magnitude and its negation make a multiple of 2^32 (`negated`).
+use mathlib.Core.Path.{refl}
+use Rattle.word.specs.Magnitude.{with_sign}
+use Rattle.word.proofs.SignBit.{negated}
 use Rattle.word.proofs.with_sign.Goals as goal
 
 pub returns-then-minus : goal.returns-then-minus
-returns-then-minus c = rw c.if-minus.true (c.difference.ensures ∙ sign_put true c.args.m)
+returns-then-minus c = rw c.if-minus.true (negated c.args.m c.wrapping_neg.type_inv c.ranges.m.fits c.wrapping_neg.ensures)
 
 pub returns-else-minus : goal.returns-else-minus
-returns-else-minus c = rw c.if-minus.false (sign_put false c.args.m)
+unfolding with_sign
+returns-else-minus c = rw c.if-minus.false refl

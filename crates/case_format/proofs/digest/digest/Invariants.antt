@@ -1,10 +1,10 @@
-use Prim.Native.Nat.{◌-◌, ◌<◌}
-use lib.ListN.{length}
+use Rattle.std.proofs.Common.{◌<◌}
 use Rattle.case_format.proofs.digest.digest.Given as goal
 
--- The number so far is below the larger modulus, as `mix` asks.
-abbrev pub invariant-loop-i : goal.invariant-loop-i
-invariant-loop-i l = l.x < 4294967357
-
-abbrev pub decreases-loop-i : goal.decreases-loop-i
-decreases-loop-i l = length l.s - l.i
+-- Both numbers are small enough for `mixed`, and chunks are still to be had.
+abbrev pub invariant-loop-bytes : goal.invariant-loop-bytes
+invariant-loop-bytes l =
+    (goal.iterator-loop-bytes).can_next l.bytes-iterator
+    × (goal.iterator-loop-bytes).is_finite l.bytes-iterator
+    × (l.x < 4294967357)
+    × (l.y < 4294967357)

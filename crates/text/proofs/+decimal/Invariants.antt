@@ -1,5 +1,0 @@
--- `text::decimal` calls itself at the quotient by ten: the measure is the number.
-use Rattle.text.proofs.+decimal.Given as goal
-
-abbrev pub decreases-decimal : goal.decreases-decimal
-decreases-decimal l = l.n

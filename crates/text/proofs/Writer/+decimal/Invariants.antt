@@ -1,0 +1,5 @@
+-- `Writer::decimal` calls itself at the quotient by ten: the measure is the number.
+use Rattle.text.proofs.Writer.+decimal.Given as goal
+
+abbrev pub decreases-decimal : goal.decreases-decimal
+decreases-decimal l = l.n

@@ -1,5 +1,0 @@
--- What `stopped` ensures, at this reason.
-use Rattle.trap.proofs.no_frame.Goals as goal
-
-pub returns : goal.returns
-returns c = c.stopped.ensures
