@@ -1,5 +1,5 @@
 // reference/FORMAT.md, "Cases": numbers of a case's bytes, and its chunks.
-ghost use Rattle.std.specs.Prelude.{◌<◌, ◌^◌};
+ghost use Rattle.std.specs.Prelude.{◌<◌, ◌≤◌, ◌^◌, length, IfSome};
 
 // How many numbers the record has, and the place after them, where the slots begin.
 pub const NUMBERS: usize = 25;
@@ -47,7 +47,9 @@ pub struct Chunk<'a> {
 
 impl<'a> Chunk<'a> {
     // The chunk that bytes begin with, and the bytes after it.
-    pub fn split_off(s: &'a [u8]) -> Option<(Chunk<'a>, &'a [u8])> {
+    pub fn split_off(s: &'a [u8]) -> Option<(Chunk<'a>, &'a [u8])>
+        ensures { IfSome result (λ parts. length parts.1.now ≤ length s.now) }
+    {
         let (bytes, rest) = s.get(8..)?.split_at_checked(place(s, 4))?;
         let start = word(s, 0);
         Some((Chunk { start, bytes }, rest))

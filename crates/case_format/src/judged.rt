@@ -1,4 +1,6 @@
 // reference/FORMAT.md, "The last line": a case is judged whole before any of it is run, by its bytes alone.
+ghost use Rattle.std.specs.Prelude.{◌≤◌, length, IfSome};
+
 use crate::given::{Chunk, NUMBERS, Run, SLOTS, numbers, place, word};
 
 // Why a stream goes no further.
@@ -64,7 +66,9 @@ fn rights_fit(slots: &[u8]) -> bool {
 }
 
 // The bytes after the chunks that s begins with, if these rise within `size` bytes.
-pub fn after_chunks(s: &[u8], count: usize, size: usize) -> Option<&[u8]> {
+pub fn after_chunks(s: &[u8], count: usize, size: usize) -> Option<&[u8]>
+    ensures { IfSome result (λ rest. length rest.now ≤ length s.now) }
+{
     let mut rest = s;
     let mut free = 0;
     for _ in 0..count {

@@ -2,27 +2,32 @@
 // lowest first, and is run in a machine of its own. The end of input or a file that is cut off ends them; then lines are compared with constant byte strings.
 #![tactic(auto)]
 
+ghost use Rattle.std.specs.Prelude.{◌≤◌, length, IfSome};
+
 mod constants;
 
 // The longest that can be accepted, 16 + 32,768 bytes, and one more, by which a longer one is refused.
 const LONGEST: usize = 32785;
 
-// Reads past n bytes, if they are there.
+// Reads past n bytes, if they are there: only where nothing comes has the input ended.
 fn skip(n: usize) -> Option<()> {
     let mut part = io::buffer();
     let mut rest = n;
     while 0 < rest {
         let size = rest.min(4096);
-        if io::read_full(0, &mut part[..size]) < size {
+        let past = io::read_full(0, &mut part[..size]);
+        if past == 0 {
             return None;
         }
-        rest -= size;
+        rest -= past;
     }
     Some(())
 }
 
 // Reads a file, if all of it is there, and keeps as much as fits.
-fn read_file(file: &mut [u8; LONGEST]) -> Option<&[u8]> {
+fn read_file(file: &mut [u8; LONGEST]) -> Option<&[u8]>
+    ensures { IfSome result (λ kept. length kept.now ≤ 32785) }
+{
     let mut size = [0; 4];
     if io::read_full(0, &mut size) < 4 {
         return None;
