@@ -1,7 +1,7 @@
 // reference/CALLS.md, kinds 3 and 4: a machine saved, and a saved machine read. Each uses as much of memory, console and file as it says.
 use case_format::digest::digest;
 use case_format::given::{byte, place, put_chunks};
-use case_format::printed::Line;
+use case_format::printed::{Line, SHORT};
 use case_records::given::{first, lend, machine_of};
 use case_records::printed::show_line;
 
@@ -13,7 +13,8 @@ pub fn show_saved(s: &[u8], no: u64, memory: &mut [u8], console: &mut [u8], most
     file.fill(byte(s, 36));
     lend(s, mem, con);
     let saved = snapshot::save(machine_of(s), mem, con, file);
-    let mut line = Line::of(no);
+    let mut bytes = [0; SHORT];
+    let mut line = Line::of(&mut bytes, no);
     line.number(u64::from(snapshot::save_number(saved.answer)));
     line.number(saved.length as u64);
     line.numbers(&digest(file));

@@ -1,7 +1,7 @@
 // reference/FORMAT.md, "Expected output": the line of a machine.
 use case_format::digest::digest;
 use case_format::given::NUMBERS;
-use case_format::printed::Line;
+use case_format::printed::{LONGEST, Line};
 use rules::Machine;
 
 // The record: keys taken, console bytes written, its numbers with their count, then the buffer's count and its entries, at most 64.
@@ -22,7 +22,8 @@ fn put_record(line: &mut Line, m: &Machine) {
 
 // A line: the number of the case or call, the numbers that it has before the record's, the record, and the digests of memory and console.
 pub fn show_line(no: u64, head: &[u64], m: &Machine, mem: &[u8], con: &[u8]) {
-    let mut line = Line::of(no);
+    let mut bytes = [0; LONGEST];
+    let mut line = Line::of(&mut bytes, no);
     line.numbers(head);
     put_record(&mut line, m);
     line.numbers(&digest(mem));
