@@ -8,6 +8,13 @@ use keys::{KeyList, PackedKeys};
 use rules::{Key, Machine};
 use runs::RunResult;
 
+// What a run gives its caller to keep: the record, and the answer's number.
+#[derive(Clone, Copy)]
+pub struct Numbered {
+    pub machine: Machine,
+    pub number: u32,
+}
+
 // A run, whatever form its keys have.
 fn run_list<L: KeyList>(
     m: Machine,
