@@ -13,7 +13,6 @@ use Rattle.word.specs.Word.{difference, sum, cut}
 use Rattle.decode.specs.declared.PlainOp.{PlainOp}
 use Rattle.decode.specs.declared.PlainOp.TheVariants.{Halt, Cli, Sti, Bin, Ssp, Ivec, Time, Lvad, Lusp, Susp, Msiz, Idle}
 use Rattle.paging.specs.declared.Space.{Space}
-use Rattle.paging.specs.declared.TrapCode.{TrapCode}
 use Rattle.paging.specs.TrapCode.{USER}
 use Rattle.paging.specs.Translate.{Translator}
 use Rattle.paging.specs.Walk.{bit}
@@ -65,7 +64,7 @@ module _ (size keys console_size : ℕ) (s : Space) (d : Directory size s.pdir) 
       go false = omega arith
 
   -- a trap frame, stored or not
-  frame_acceptable : (c : Cpu) (left : Pending) (code : TrapCode) (pc : ℕ) → Passes keys console_size c → (r : Reply) → AllAcceptable (framed c left code pc r)
+  frame_acceptable : (c : Cpu) (left : Pending) (code pc : ℕ) → Passes keys console_size c → (r : Reply) → AllAcceptable (framed c left code pc r)
   unfolding space_after
   frame_acceptable c left code pc p (got x) = at_leaf (record { passes = entered_passes (put_pending left c) p; directory = d })
   frame_acceptable c left code pc p (denied f) = ended_acceptable p

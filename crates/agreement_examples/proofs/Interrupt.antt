@@ -3,7 +3,6 @@
 use mathlib.Core.Path.{◌≡◌, refl}
 use mathlib.Core.Bool.{true}
 use mathlib.Core.List.{[], ◌∷◌}
-use Rattle.paging.specs.declared.TrapCode.TheVariants.{Fkeybd}
 use Rattle.paging.specs.Event.{walked, marked, stored, delivered}
 use Rattle.worked.specs.Start.{put_b, put_sp, put_ivec, enabled, key, ◌holds◌, memory}
 use Rattle.agreement_examples.proofs.Example.{Example, kernel, run_with, example_with, keeps, entry, buffer_runs, reader_runs, console_after, Shows, shows}
@@ -17,7 +16,7 @@ interrupted =
 
 -- the frame's first slot has a walk, its second and all later accesses are served by the entry; the stores touch no word of it
 pub interrupted_shows : Shows interrupted
-    ((walked ∷ marked 0 ∷ marked 4 ∷ keeps 1 0 4 ∷ stored 0x1f8 4 ∷ stored 0x1f0 4 ∷ delivered Fkeybd ∷ []) ∷ [] ∷ [] ∷ [] ∷ [])
+    ((walked ∷ marked 0 ∷ marked 4 ∷ keeps 1 0 4 ∷ stored 0x1f8 4 ∷ stored 0x1f0 4 ∷ delivered 2 ∷ []) ∷ [] ∷ [] ∷ [] ∷ [])
     (entry 1 0 true true ∷ []) 7 0x41
 unfolding buffer_runs reader_runs
 interrupted_shows = shows interrupted refl refl refl refl refl refl

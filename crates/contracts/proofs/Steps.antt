@@ -11,7 +11,6 @@ use Rattle.paging.specs.declared.Access.TheVariants.{Read}
 use Rattle.paging.specs.Answer.{Answer}
 use Rattle.paging.specs.declared.Fault.{Fault}
 use Rattle.paging.specs.declared.Space.{Space}
-use Rattle.paging.specs.declared.TrapCode.{TrapCode}
 use Rattle.paging.specs.Walk.{is_write}
 use Rattle.mmu.specs.Good.{Good}
 use Rattle.mmu.specs.Translates.{Kept, Translates, kept_in, translator}
@@ -96,7 +95,7 @@ module _ {k : Cpu} {con : List ℕ} (x y : ℕ) {m l : List ℕ} {a : Answer} {m
         record { same = h.same ∙ sym (ap (ending k con) (slots_second k.space k.system.user x y t f [] u e d)); good = h.good }
 
     -- both are granted, and stored in order
-    pub finishes_both : {q v w : ℕ} {code : TrapCode} {r : Cpu} {m₁ m₂ : List ℕ} → b ≡ Ok q → f (got 0) ≡ final r (v ∷ w ∷ []) (deliver code)
+    pub finishes_both : {q v w code : ℕ} {r : Cpu} {m₁ m₂ : List ℕ} → b ≡ Ok q → f (got 0) ≡ final r (v ∷ w ∷ []) (deliver code)
         → c ≡ record_after k (deliver code) r → m₁ ≡ store_n 4 m'' p v → m₂ ≡ store_n 4 m₁ q w → Finishes (ask (slots x y) f) k m con l c m₂ con l''
     unfolding finished interpret store_all
     finishes_both {q} {v} {w} d g h i j =

@@ -1,9 +1,10 @@
 // Document 01, "Opcodes": every ordinary instruction, and the fetch.
 #![tactic(auto)]
 
-ghost use Rattle.std.specs.Prelude.{◌≡◌, ◌+◌, ◌<◌, ◌^◌};
+ghost use Rattle.std.specs.Prelude.{◌≡◌, ◌+◌, ◌<◌, ◌^◌, length};
 ghost use Rattle.decode.specs.declared.Operand.TheVariants.{Stack};
 ghost use Rattle.mmu.specs.Bus.{SameBus};
+ghost use Rattle.mmu.specs.Good.{Good};
 ghost use Rattle.rules.specs.Record.{with_count};
 ghost use Rattle.rules.specs.Arithmetic.{alu_from};
 ghost use Rattle.rules.specs.Execute.{execute_tree, instruction_tree};
@@ -15,7 +16,7 @@ use contracts::{Done, End};
 use decode::{AluOp, Instr, Operand, Reg};
 use memory::Size;
 use mmu::Bus;
-use paging::{Access, TrapCode};
+use paging::{Access, Space, TrapCode};
 use rules::Regs;
 
 // ---- arithmetic
@@ -124,11 +125,19 @@ pub fn instruction(r: Regs, bus: &mut Bus) -> Done
 }
 
 // The word of the next instruction, if it is a floating one, where that is known without a search or a walk: `instruction` would then end in its word and change nothing.
-pub fn look_ahead(r: Regs, bus: &Bus) -> Option<u32>
-    ensures { LooksAhead r bus.now.space bus.now.user bus.now.mem.now bus.now.tlb.now result }
+pub fn look_ahead(
+    r: Regs,
+    user: bool,
+    space: Space,
+    mem: &[u8],
+    tlb: &[u64],
+    hint: &[u8; 256],
+) -> Option<u32>
+    requires { Good (length mem.now) space.pdir tlb.now }
+    ensures { LooksAhead r space user mem.now tlb.now result }
 {
-    let q = bus.probe(r.pc, Size::Word, Access::Fetch)?;
-    let w = memory::load4(bus.bytes(), q);
+    let q = mmu::probe(mem, tlb, hint, space, r.pc, Size::Word, Access::Fetch, user)?;
+    let w = memory::load4(mem, q);
     if floating_decode::is_floating(w) {
         return Some(w);
     }

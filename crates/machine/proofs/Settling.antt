@@ -5,6 +5,7 @@ use mathlib.Core.Path.{◌≡◌, sym, subst}
 use Rattle.paging.specs.declared.Fault.{Fault}
 use Rattle.paging.specs.declared.TrapCode.{TrapCode}
 use Rattle.paging.specs.declared.TrapCode.TheVariants.{Finst}
+use Rattle.paging.specs.TrapCode.{code_number}
 use Rattle.rules.specs.declared.Cpu.{Cpu}
 use Rattle.rules.specs.Trap.{next_pc, trap_tree, fault_tree}
 use Rattle.rules.specs.Step.{settle_tree}
@@ -21,15 +22,15 @@ module _ (size console_size : ℕ) (c : Cpu) (d : Done) {m con l : List ℕ} {x 
   settle_at q h = subst (λ z. Finishes (settle_tree size console_size c (out_by d.regs z)) c m con l x m' con' l') (sym q) h
 
   -- "The pc stored is the next instruction's for faults in execution and TRAP"
-  pub settle_trap : {code : TrapCode} {n : ℕ} → d.end ≡ Trap code → n ≡ next_pc c → Finishes (trap_tree c code n) c m con l x m' con' l'
+  pub settle_trap : {code : TrapCode} {number n : ℕ} → d.end ≡ Trap code → number ≡ code_number code → n ≡ next_pc c → Finishes (trap_tree c number n) c m con l x m' con' l'
       → Finishes (settle_tree size console_size c (out_of d)) c m con l x m' con' l'
   unfolding settle_tree
-  settle_trap {code} q p h = settle_at q (at_next (trap_tree c code) c p h)
+  settle_trap {code} q e p h = settle_at q (at_next (trap_tree c (code_number code)) c p (rw e at h))
 
-  pub settle_undecoded : {pad w n : ℕ} → d.end ≡ Undecoded pad w → n ≡ next_pc c → Finishes (trap_tree c Finst n) c m con l x m' con' l'
+  pub settle_undecoded : {pad w number n : ℕ} → d.end ≡ Undecoded pad w → number ≡ code_number Finst → n ≡ next_pc c → Finishes (trap_tree c number n) c m con l x m' con' l'
       → Finishes (settle_tree size console_size c (out_of d)) c m con l x m' con' l'
   unfolding settle_tree
-  settle_undecoded q p h = settle_at q (at_next (trap_tree c Finst) c p h)
+  settle_undecoded q e p h = settle_at q (at_next (trap_tree c (code_number Finst)) c p (rw e at h))
 
   pub settle_refused : {f : Fault} {n : ℕ} → d.end ≡ Refused f → n ≡ next_pc c → Finishes (fault_tree c f n) c m con l x m' con' l'
       → Finishes (settle_tree size console_size c (out_of d)) c m con l x m' con' l'

@@ -5,7 +5,7 @@ use mathlib.Core.Bool.{Bool, true, false}
 use mathlib.Core.List.{List, []}
 use mathlib.Core.Path.{◌≡◌, refl, sym, ap, ◌∙◌, subst}
 use lib.ListN.{length}
-use Rattle.paging.specs.declared.TrapCode.{TrapCode}
+use Rattle.paging.specs.TrapCode.{code_number}
 use Rattle.mmu.specs.Good.{Good}
 use Rattle.mmu.specs.Translates.{result, kept_in, translator}
 use Rattle.rules.specs.declared.Key.{Key}
@@ -53,8 +53,8 @@ module _ (k : Option Key) (c : Cpu) {t : Cpu} (f : t ≡ ticked k c) {d : Option
       record { same = h'.same; good = h'.good }
 
   -- an interrupt is due: waiting ends, and the trap is delivered and clears its mark
-  pub step_due : {i : Interrupt} {left : Pending} {code : TrapCode} {y x : Cpu} {m' l' : List ℕ} → d ≡ Some i → left ≡ cleared i t.clock.pending
-      → code ≡ interrupt_code i → y ≡ awake t → Finishes (deliver_tree y left code t.regs.pc) y m con l x m' con l'
+  pub step_due : {i : Interrupt} {left : Pending} {code : ℕ} {y x : Cpu} {m' l' : List ℕ} → d ≡ Some i → left ≡ cleared i t.clock.pending
+      → code ≡ code_number (interrupt_code i) → y ≡ awake t → Finishes (deliver_tree y left code t.regs.pc) y m con l x m' con l'
       → Steps c k m con l x m' con l'
   unfolding due_tree
   step_due {i} {left} {code} {x = x} {m'} {l'} q p r w h =
@@ -63,7 +63,7 @@ module _ (k : Option Key) (c : Cpu) {t : Cpu} (f : t ≡ ticked k c) {d : Option
       let h₂ : Finishes (deliver_tree (awake t) (cleared i t.clock.pending) code t.regs.pc) (awake t) m con l x m' con l' =
       subst (λ (z : Pending). Finishes (deliver_tree (awake t) z code t.regs.pc) (awake t) m con l x m' con l') p h₁ in
       let h₃ : Finishes (interrupt_tree i t) (awake t) m con l x m' con l' =
-      subst (λ (z : TrapCode). Finishes (deliver_tree (awake t) (cleared i t.clock.pending) z t.regs.pc) (awake t) m con l x m' con l') r h₂ in
+      subst (λ (z : ℕ). Finishes (deliver_tree (awake t) (cleared i t.clock.pending) z t.regs.pc) (awake t) m con l x m' con l') r h₂ in
       by_due (Some i) q (record { same = h₃.same; good = h₃.good })
 
   -- the machine waits

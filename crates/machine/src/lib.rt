@@ -75,14 +75,7 @@ fn resumed(
     requires { Good (length mem.old) space.pdir tlb.old × (s.count ≤ limit) }
     ensures { EndsFrom s user space limit mem.old tlb.old result mem.new tlb.new }
 {
-    let bus = Bus {
-        mem,
-        tlb,
-        hint,
-        space,
-        user,
-    };
-    let a = execute::look_ahead(s, &bus);
+    let a = execute::look_ahead(s, user, space, mem, tlb, hint);
     let Some(w) = a else {
         return instructions(s, limit, space, user, mem, tlb, hint);
     };
@@ -191,12 +184,15 @@ fn settle(
     match d.end {
         End::Ok => with_done(c, d),
         End::Unfetched(f) => trap::fault(c, f, c.regs.pc, mem, tlb, hint),
-        End::Trap(code) => trap::trap(c, code, trap::next_pc(c), mem, tlb, hint),
+        End::Trap(code) => {
+            let number = paging::code_number(code);
+            trap::trap(c, number, trap::next_pc(c), mem, tlb, hint)
+        }
         End::Refused(f) => trap::fault(c, f, trap::next_pc(c), mem, tlb, hint),
         End::System(op) => system::system(c, op, mem, console, tlb, hint),
         End::Undecoded { pad: _, word: _ } => trap::trap(
             c,
-            TrapCode::Finst,
+            paging::code_number(TrapCode::Finst),
             trap::next_pc(c),
             mem,
             tlb,
@@ -242,7 +238,7 @@ pub fn step(
     let t = clock::tick(k, c);
     if let Some(i) = clock::due_trap(t) {
         let left = clock::cleared(i, t.clock.pending);
-        let code = TrapCode::from(i);
+        let code = paging::code_number(TrapCode::from(i));
         return trap::deliver(awake(t), left, code, t.regs.pc, mem, tlb, hint);
     }
     if t.system.waiting {
@@ -267,6 +263,8 @@ pub fn step(
 }
 
 // The end of n quiet steps from c, with f and g as they are after them: b says how their instructions ended. Of one that did not end well the step is finished.
+// Out of line it takes 4 instructions a step more where a timer traps every 50 steps.
+#[inline(always)]
 fn finish(
     c: Cpu,
     left: u64,

@@ -14,7 +14,7 @@ mod bus;
 
 pub use bus::Bus;
 use memory::Size;
-use paging::{Access, Cause, Fault, TrapCode};
+use paging::{Access, Cause, Fault, Space, TrapCode};
 
 // An address with its low bits dropped to the natural size.
 fn align(addr: u32, size: Size) -> u32
@@ -102,45 +102,83 @@ fn translate_slow(
     }
 }
 
+// Where an access lies, if paging is off or the slot that the hint names serves it: nothing is changed.
+#[inline(always)]
+pub fn probe(
+    mem: &[u8],
+    tlb: &[u64],
+    hint: &[u8; 256],
+    space: Space,
+    addr: u32,
+    size: Size,
+    kind: Access,
+    user: bool,
+) -> Option<usize>
+    requires { Good (length mem.now) space.pdir tlb.now }
+    ensures { Probes space (request kind size addr user) mem.now tlb.now result }
+{
+    if space.paging {
+        let page = addr / 4096;
+        let named = hint[(page % 256) as usize] as usize;
+        let frame = buffer::slot(tlb, named, page as u64, kind, user)?;
+        return Some(in_frame(frame, addr, size));
+    }
+    if (addr as usize) < mem.len() {
+        return Some(align(addr, size) as usize);
+    }
+    None
+}
+
 impl<'a> Bus<'a> {
-    // Where an access lies.
+    // Where an access lies. Both branches say the same: told apart here, an access after the first tests paging no more, and MCPY takes 63.0 instructions a step for
+    // 69.0. With the slow translation in a method of its own they are fewer still, and take longer.
     #[inline(always)]
     pub fn translate(&mut self, addr: u32, size: Size, kind: Access) -> Result<usize, Fault>
         ensures bus { SameBus self.old self.new }
         ensures answer { Translates self.old.space (request kind size addr self.old.user) self.old.mem.now self.old.tlb.now result self.new.mem.now self.new.tlb.now }
     {
+        let paging = self.space.paging;
+        let user = self.user;
+        if self.space.paging {
+            let Some(q) = self.probe(addr, size, kind) else {
+                return translate_slow(
+                    self.mem,
+                    self.tlb,
+                    self.hint,
+                    paging,
+                    self.space.pdir,
+                    addr,
+                    size,
+                    kind,
+                    user,
+                );
+            };
+            return Ok(q);
+        }
         let Some(q) = self.probe(addr, size, kind) else {
             return translate_slow(
                 self.mem,
                 self.tlb,
                 self.hint,
-                self.space.paging,
+                paging,
                 self.space.pdir,
                 addr,
                 size,
                 kind,
-                self.user,
+                user,
             );
         };
         Ok(q)
     }
 
-    // Where an access lies, if paging is off or the slot that the hint names serves it: nothing is changed.
+    // The probe of a bus.
     #[inline(always)]
     pub fn probe(&self, addr: u32, size: Size, kind: Access) -> Option<usize>
         ensures { Probes self.now.space (request kind size addr self.now.user) self.now.mem.now self.now.tlb.now result }
     {
-        if self.space.paging {
-            let page = addr / 4096;
-            let hint: &[u8; 256] = self.hint;
-            let named = hint[(page % 256) as usize] as usize;
-            let frame = buffer::slot(self.tlb, named, page as u64, kind, self.user)?;
-            return Some(in_frame(frame, addr, size));
-        }
-        if (addr as usize) < self.mem.len() {
-            return Some(align(addr, size) as usize);
-        }
-        None
+        probe(
+            self.mem, self.tlb, self.hint, self.space, addr, size, kind, self.user,
+        )
     }
 
     // Memory, to read.

@@ -14,9 +14,8 @@ use Rattle.paging.specs.declared.Fault.{Fault}
 use Rattle.paging.specs.declared.Space.{Space}
 use Rattle.paging.specs.Translate.{Translator}
 use Rattle.paging.specs.declared.Cause.TheVariants.{AddressBeyondMemory}
-use Rattle.paging.specs.declared.TrapCode.{TrapCode}
 use Rattle.paging.specs.declared.TrapCode.TheVariants.{Finst, Fmem, Fpriv}
-use Rattle.paging.specs.TrapCode.{USER}
+use Rattle.paging.specs.TrapCode.{code_number, USER}
 use Rattle.paging.specs.Walk.{bit}
 use Rattle.rules.specs.declared.Cpu.{Cpu}
 use Rattle.rules.specs.declared.Floats.{Floats}
@@ -77,21 +76,21 @@ module _ (m : Model) (v : Floats) where
   -- ---- what follows an instruction
 
   -- a frame, stored or not
-  frame_carried : (c : Cpu) (left : Pending) (code : TrapCode) (pc : ℕ) (r : Reply) → Carried (framed (in_mode m v c) left code pc r) (framed c left code pc r)
+  frame_carried : (c : Cpu) (left : Pending) (code pc : ℕ) (r : Reply) → Carried (framed (in_mode m v c) left code pc r) (framed c left code pc r)
   frame_carried c left code pc (got x) = leaf refl
   frame_carried c left code pc (denied f) = leaf refl
 
-  pub deliver_carried : (c : Cpu) (left : Pending) (code : TrapCode) (pc : ℕ) → Carried (deliver_tree (in_mode m v c) left code pc) (deliver_tree c left code pc)
+  pub deliver_carried : (c : Cpu) (left : Pending) (code pc : ℕ) → Carried (deliver_tree (in_mode m v c) left code pc) (deliver_tree c left code pc)
   unfolding deliver_tree
   deliver_carried c left code pc = asks (frame_carried c left code pc)
 
-  trap_carried : (c : Cpu) (code : TrapCode) (pc : ℕ) → Carried (trap_tree (in_mode m v c) code pc) (trap_tree c code pc)
+  trap_carried : (c : Cpu) (code pc : ℕ) → Carried (trap_tree (in_mode m v c) code pc) (trap_tree c code pc)
   unfolding trap_tree
   trap_carried c code pc = carried_if c.system.iena (deliver_carried c c.clock.pending code pc) (leaf refl)
 
   fault_carried : (c : Cpu) (f : Fault) (pc : ℕ) → Carried (fault_tree (in_mode m v c) f pc) (fault_tree c f pc)
   unfolding fault_tree
-  fault_carried c f pc = trap_carried (with_fault f c) f.code pc
+  fault_carried c f pc = trap_carried (with_fault f c) (code_number f.code) pc
 
   -- the privileged instructions that compute; TIME does something or nothing
   pub computed_carried : (size : ℕ) (op : PlainOp) (c : Cpu) → computed size op (in_mode m v c) ≡ in_mode m v (computed size op c)
@@ -143,7 +142,7 @@ module _ (m : Model) (v : Floats) where
   system_carried : (size console_size : ℕ) (op : SysOp) (c : Cpu) → Carried (system_tree size console_size op (in_mode m v c)) (system_tree size console_size op c)
   unfolding system_tree
   system_carried size console_size op c =
-      carried_if c.system.user (trap_carried c Fpriv (next_pc c)) (privileged_carried size console_size op c (with_regs (moved c.regs) c))
+      carried_if c.system.user (trap_carried c (code_number Fpriv) (next_pc c)) (privileged_carried size console_size op c (with_regs (moved c.regs) c))
 
   -- whatever the instruction came to, unless it was a floating one
   settle_carried : (illegal : Bool) (size console_size : ℕ) (c : Cpu) (o : Out) → Known illegal o
@@ -151,11 +150,11 @@ module _ (m : Model) (v : Floats) where
   unfolding settle_tree
   settle_carried illegal size console_size c (fine r vs) k = leaf refl
   settle_carried illegal size console_size c (unfetched f) k = fault_carried c f c.regs.pc
-  settle_carried illegal size console_size c (trap code) k = trap_carried c code (next_pc c)
+  settle_carried illegal size console_size c (trap code) k = trap_carried c (code_number code) (next_pc c)
   settle_carried illegal size console_size c (refused f) k = fault_carried c f (next_pc c)
   settle_carried illegal size console_size c (system op) k = system_carried size console_size op c
   settle_carried illegal size console_size c (floated r x vs) k = absurd k
-  settle_carried illegal size console_size c (undecoded w) k = trap_carried c Finst (next_pc c)
+  settle_carried illegal size console_size c (undecoded w) k = trap_carried c (code_number Finst) (next_pc c)
 
   -- after every leaf of an instruction's tree
   pub rest_carried : {illegal : Bool} (size console_size : ℕ) (c : Cpu) {t : Tree Out} → Leaves (Known illegal) t

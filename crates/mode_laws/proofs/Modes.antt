@@ -13,8 +13,8 @@ use Rattle.decode.specs.declared.Instr.{Instr}
 use Rattle.decode.specs.declared.Instr.TheVariants.{Illegal}
 use Rattle.paging.specs.declared.Access.TheVariants.{Fetch}
 use Rattle.paging.specs.declared.Fault.{Fault}
-use Rattle.paging.specs.declared.TrapCode.{TrapCode}
 use Rattle.paging.specs.declared.TrapCode.TheVariants.{Finst}
+use Rattle.paging.specs.TrapCode.{code_number}
 use Rattle.paging.specs.Translate.{Translator}
 use Rattle.rules.specs.declared.Interrupt.{Interrupt}
 use Rattle.rules.specs.declared.Cpu.{Cpu}
@@ -50,7 +50,7 @@ old_executed c e = bind_ends (further_tree c) (leaves_all (instruction_tree c.re
 
 -- and a word without a row in its table traps FINST
 pub old_undecoded : (size console_size w : ℕ) (c : Cpu) → c.model.doubles ≡ false → decode_of w ≡ Illegal
-    → bind (bind (execute_tree w (decode_of w) (moved c.regs)) (further_tree c)) (settle_tree size console_size c) ≡ trap_tree c Finst (next_pc c)
+    → bind (bind (execute_tree w (decode_of w) (moved c.regs)) (further_tree c)) (settle_tree size console_size c) ≡ trap_tree c (code_number Finst) (next_pc c)
 unfolding bind execute_tree settle_tree
 old_undecoded size console_size w c e d =
     ap (λ (i : Instr). bind (bind (execute_tree w i (moved c.regs)) (further_tree c)) (settle_tree size console_size c)) d
@@ -206,7 +206,7 @@ module _ (c : Cpu) where
   ModeKept f = f.cpu.model ≡ c.model
 
   -- a frame, stored or not
-  frame_mode : (x : Cpu) (left : Pending) (code : TrapCode) (pc : ℕ) → x.model ≡ c.model → (r : Reply) → Leaves ModeKept (framed x left code pc r)
+  frame_mode : (x : Cpu) (left : Pending) (code pc : ℕ) → x.model ≡ c.model → (r : Reply) → Leaves ModeKept (framed x left code pc r)
   frame_mode x left code pc g (got y) = at_leaf g
   frame_mode x left code pc g (denied f) = at_leaf g
 

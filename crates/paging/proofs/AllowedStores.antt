@@ -8,7 +8,6 @@ use Rattle.paging.specs.declared.Access.{Access}
 use Rattle.paging.specs.declared.Access.TheVariants.{Read, Write}
 use Rattle.paging.specs.Answer.{Answer}
 use Rattle.paging.specs.declared.Entry.{Entry}
-use Rattle.paging.specs.declared.TrapCode.TheVariants.{Ftimer}
 use Rattle.paging.specs.Event.{walked, kept, emptied, marked, stored, delivered, Words}
 use Rattle.paging.specs.Walk.{bit, mark, mark_for, mark_events, dir_at, tab_at, allows, walk, found}
 use Rattle.paging.specs.Buffer.{serves, hit, has, place, fits, after_walk, walk_events}
@@ -51,12 +50,12 @@ after_words = refl
 -- ---- events that are no stores
 
 -- a frame delivered outside words held: its two slots, then the trap
-pub frame_elsewhere : stores_held page_two (stored 0x3ff8 4 ∷ stored 0x3ff0 4 ∷ delivered Ftimer ∷ []) ≡ false
+pub frame_elsewhere : stores_held page_two (stored 0x3ff8 4 ∷ stored 0x3ff0 4 ∷ delivered 1 ∷ []) ≡ false
 unfolding page_two
 frame_elsewhere = refl
 
 -- a walk, an entry kept, the buffer emptied, a frame delivered: none counts by itself
-pub others_listed : stores_held page_two (walked ∷ kept (words 3 0x1000 0x200c) ∷ delivered Ftimer ∷ emptied ∷ []) ≡ false
+pub others_listed : stores_held page_two (walked ∷ kept (words 3 0x1000 0x200c) ∷ delivered 1 ∷ emptied ∷ []) ≡ false
 unfolding page_two place
 others_listed = refl
 
@@ -136,7 +135,7 @@ emptied_by_page = refl
 -- ---- in a later step
 
 -- what is held after a step's events: only an entry kept and a buffer emptied change it
-pub held_later : held_after page_two (walked ∷ marked 0x1000 ∷ stored 0x3010 4 ∷ delivered Ftimer ∷ []) ≡ page_two
+pub held_later : held_after page_two (walked ∷ marked 0x1000 ∷ stored 0x3010 4 ∷ delivered 1 ∷ []) ≡ page_two
 unfolding page_two held_after
 held_later = refl
 

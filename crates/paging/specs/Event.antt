@@ -1,6 +1,5 @@
 -- What a step did, in the order it happened. Events are there for theorems alone: no rule reads them.
 use Rattle.std.specs.Prelude.{ℕ}
-use Rattle.paging.specs.declared.TrapCode.{TrapCode}
 
 -- an entry of the page buffer, by its page and the addresses of the directory word and the table word that its walk read
 pub record Words : Type 0 where
@@ -20,4 +19,4 @@ pub data Event : Type 0 where
   -- an instruction or a trap frame stored: address and size
   stored : (addr size : ℕ) → Event
   -- a trap frame was delivered: its code, without the mark of user mode
-  delivered : TrapCode → Event
+  delivered : ℕ → Event

@@ -52,7 +52,7 @@ in_frame f q = Ok (f * 4096 + cut q.size q.addr % 4096)
 abbrev pub page_of : Request → ℕ
 page_of q = q.addr / 4096 % 1048576
 
--- "Paging off: the address itself, Fmem if not below M"
+-- "Paging off: the address itself, FMEM if not below M"
 unfoldable pub direct : Request → List ℕ → Answer
 direct q m = if ltb q.addr (length m) then Ok (cut q.size q.addr) else denied Fmem AddressBeyondMemory q
 

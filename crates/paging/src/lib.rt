@@ -2,6 +2,7 @@
 #![tactic(auto)]
 
 ghost use Rattle.std.specs.Prelude.{◌≡◌};
+ghost use Rattle.paging.specs.TrapCode.{code_number};
 ghost use Rattle.paging.specs.Walk.{is_write};
 
 // What an access is for.
@@ -51,7 +52,7 @@ pub enum Cause {
 }
 
 // Document 01, "Traps": the trap codes, with the source's numbers.
-#[derive(Clone, Copy)]
+#[derive(Clone, Copy, Debug, PartialEq, Eq)]
 pub enum TrapCode {
     // Bad physical address.
     Fmem = 0,
@@ -73,6 +74,13 @@ pub enum TrapCode {
     Fwpage = 8,
     // Page fault on read.
     Frpage = 9,
+}
+
+// The number of a code.
+pub fn code_number(code: TrapCode) -> u16
+    ensures { result ≡ code_number code }
+{
+    code as u16
 }
 
 // A fault of an access: its trap code, its cause, and the address asked. Code and cause take a byte each and stand first: a fault is eight bytes

@@ -6,7 +6,7 @@ use mathlib.Core.List.{List, []}
 use mathlib.Core.Path.{◌≡◌, refl, ◌∙◌}
 use lib.ListN.{length}
 use Rattle.paging.specs.declared.Fault.{Fault}
-use Rattle.paging.specs.declared.TrapCode.{TrapCode}
+use Rattle.paging.specs.TrapCode.{code_number}
 use Rattle.paging.specs.Translate.{Translator}
 use Rattle.rules.specs.declared.Cpu.{Cpu}
 use Rattle.rules.specs.declared.Key.{Key}
@@ -27,24 +27,24 @@ keeps v e = record { vadr = v; cause = e }
 -- ---- a trap
 
 -- a frame, stored or not: "a refused slot doesn't set vadr"
-frame_keeps : (c : Cpu) (left : Pending) (code : TrapCode) (pc : ℕ) (r : Reply) → Leaves (λ f. KeepsFault c f.cpu) (framed c left code pc r)
+frame_keeps : (c : Cpu) (left : Pending) (code pc : ℕ) (r : Reply) → Leaves (λ f. KeepsFault c f.cpu) (framed c left code pc r)
 frame_keeps c left code pc (got v) = at_leaf (keeps refl refl)
 frame_keeps c left code pc (denied f) = at_leaf (keeps refl refl)
 
 -- of interrupts too
-pub delivery_keeps : (c : Cpu) (left : Pending) (code : TrapCode) (pc : ℕ) → Leaves (λ f. KeepsFault c f.cpu) (deliver_tree c left code pc)
+pub delivery_keeps : (c : Cpu) (left : Pending) (code pc : ℕ) → Leaves (λ f. KeepsFault c f.cpu) (deliver_tree c left code pc)
 unfolding deliver_tree
 delivery_keeps c left code pc = at_ask (frame_keeps c left code pc)
 
 -- FPRIV, FINST, FSYS and FARITH, delivered or not
-pub trap_keeps : (c : Cpu) (code : TrapCode) (pc : ℕ) → Leaves (λ f. KeepsFault c f.cpu) (trap_tree c code pc)
+pub trap_keeps : (c : Cpu) (code pc : ℕ) → Leaves (λ f. KeepsFault c f.cpu) (trap_tree c code pc)
 unfolding trap_tree
 trap_keeps c code pc = leaves_if c.system.iena (delivery_keeps c c.clock.pending code pc) (at_leaf (keeps refl refl))
 
 -- a fault of the fetch, of an operand access or of PDIR, delivered or not
 pub fault_sets : (c : Cpu) (f : Fault) (pc : ℕ) → Leaves (λ x. HasFault f x.cpu) (fault_tree c f pc)
 unfolding fault_tree
-fault_sets c f pc = go (trap_keeps (with_fault f c) f.code pc)
+fault_sets c f pc = go (trap_keeps (with_fault f c) (code_number f.code) pc)
   where
     go : {t : Tree Final} → Leaves (λ x. KeepsFault (with_fault f c) x.cpu) t → Leaves (λ x. HasFault f x.cpu) t
     go (at_leaf k) = at_leaf (record { vadr = k.vadr; cause = k.cause })

@@ -7,7 +7,7 @@ use mathlib.Core.List.{List, [], ◌++◌}
 use mathlib.Core.Path.{◌≡◌, refl, sym, ap, ◌∙◌, subst}
 use lib.Dec.{eqb}
 use lib.ListN.{length}
-use Rattle.paging.specs.declared.TrapCode.{TrapCode}
+use Rattle.paging.specs.TrapCode.{code_number}
 use Rattle.paging.specs.Translate.{Translator}
 use Rattle.rules.specs.declared.Clock.{Clock}
 use Rattle.rules.specs.declared.Cpu.{Cpu}
@@ -88,11 +88,11 @@ unmarked_due c e k t = rw (e, k, t)
 -- both are kept, or an interrupt was due, is delivered, and its mark alone is cleared
 data PendingEnd (c : Cpu) (f : Final) : Type 0 where
   both_kept : f.cpu.clock.pending ≡ c.clock.pending → PendingEnd c f
-  one_cleared : (i : Interrupt) → due_of c ≡ Some i → f.effect ≡ deliver (interrupt_code i) → f.cpu.clock.pending ≡ cleared i c.clock.pending → PendingEnd c f
+  one_cleared : (i : Interrupt) → due_of c ≡ Some i → f.effect ≡ deliver (code_number (interrupt_code i)) → f.cpu.clock.pending ≡ cleared i c.clock.pending → PendingEnd c f
 
 module _ (c : Cpu) where
   -- a fault's or TRAP's frame, stored or not
-  frame_keeps : (x : Cpu) (code : TrapCode) (pc : ℕ) → x.clock.pending ≡ c.clock.pending → (r : Reply) → Leaves (PendingEnd c) (framed x x.clock.pending code pc r)
+  frame_keeps : (x : Cpu) (code pc : ℕ) → x.clock.pending ≡ c.clock.pending → (r : Reply) → Leaves (PendingEnd c) (framed x x.clock.pending code pc r)
   frame_keeps x code pc g (got v) = at_leaf (both_kept g)
   frame_keeps x code pc g (denied f) = at_leaf (both_kept g)
 
@@ -115,7 +115,7 @@ module _ (c : Cpu) where
 
   -- an interrupt's frame, stored or not
   interrupt_pending : (i : Interrupt) (pc : ℕ) → due_of c ≡ Some i → (r : Reply)
-      → Leaves (PendingEnd c) (framed (awake c) (cleared i c.clock.pending) (interrupt_code i) pc r)
+      → Leaves (PendingEnd c) (framed (awake c) (cleared i c.clock.pending) (code_number (interrupt_code i)) pc r)
   interrupt_pending i pc e (got v) = at_leaf (one_cleared i e refl refl)
   interrupt_pending i pc e (denied f) = at_leaf (both_kept refl)
 
@@ -127,10 +127,10 @@ module _ (c : Cpu) where
   -- ---- what is due is delivered, or the machine stops with 3
   module _ (i : Interrupt) where
     data DueEnd (f : Final) : Type 0 where
-      stored : f.effect ≡ deliver (interrupt_code i) → f.cpu.clock.pending ≡ cleared i c.clock.pending → DueEnd f
+      stored : f.effect ≡ deliver (code_number (interrupt_code i)) → f.cpu.clock.pending ≡ cleared i c.clock.pending → DueEnd f
       refused : f.cpu.stop ≡ NoFrame → f.cpu.clock.pending ≡ c.clock.pending → DueEnd f
 
-    due_frame : (pc : ℕ) (r : Reply) → Leaves DueEnd (framed (awake c) (cleared i c.clock.pending) (interrupt_code i) pc r)
+    due_frame : (pc : ℕ) (r : Reply) → Leaves DueEnd (framed (awake c) (cleared i c.clock.pending) (code_number (interrupt_code i)) pc r)
     due_frame pc (got v) = at_leaf (stored refl refl)
     due_frame pc (denied f) = at_leaf (refused refl refl)
 
@@ -147,7 +147,7 @@ cleared_own Timer p = refl
 
 module _ {B : Type 0} (tr : Translator B) (c t : Cpu) (con : List ℕ) (e : Ended B Final) where
   -- the delivery is the last event
-  delivery_last : (i : Interrupt) → e.leaf.effect ≡ deliver (interrupt_code i) → Delivered i (stepped_by tr c con e)
+  delivery_last : (i : Interrupt) → e.leaf.effect ≡ deliver (code_number (interrupt_code i)) → Delivered i (stepped_by tr c con e)
   unfolding stepped_by
   delivery_last i f =
       let earlier = e.events ++ store_events e.grants e.leaf.values in

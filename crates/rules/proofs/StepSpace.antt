@@ -6,7 +6,7 @@ use native.Mathlib.Omega.{arith}
 use Rattle.word.specs.Word.{cut}
 use Rattle.paging.specs.declared.Space.{Space}
 use Rattle.rules.specs.declared.Key.{Key}
-use Rattle.paging.specs.declared.TrapCode.{TrapCode}
+use Rattle.paging.specs.TrapCode.{code_number}
 use Rattle.rules.specs.declared.Cpu.{Cpu}
 use Rattle.rules.specs.declared.Interrupt.{Interrupt}
 use Rattle.rules.specs.declared.Pending.{Pending}
@@ -24,14 +24,14 @@ DirectoryAligned s f = (space_after s f.effect).pdir % 4 ≡ 0
 
 module _ (s : Space) (h : s.pdir % 4 ≡ 0) where
   -- a trap frame leaves the address space
-  frame_aligned : (c : Cpu) (left : Pending) (code : TrapCode) (pc : ℕ) (r : Reply) → Leaves (DirectoryAligned s) (framed c left code pc r)
+  frame_aligned : (c : Cpu) (left : Pending) (code pc : ℕ) (r : Reply) → Leaves (DirectoryAligned s) (framed c left code pc r)
   unfolding space_after
   frame_aligned c left code pc (got x) = at_leaf h
   frame_aligned c left code pc (denied f) = at_leaf h
 
   interrupt_aligned : (i : Interrupt) (c : Cpu) → Leaves (DirectoryAligned s) (interrupt_tree i c)
   unfolding deliver_tree space_after
-  interrupt_aligned i c = at_ask (frame_aligned (awake c) (cleared i c.clock.pending) (interrupt_code i) c.regs.pc)
+  interrupt_aligned i c = at_ask (frame_aligned (awake c) (cleared i c.clock.pending) (code_number (interrupt_code i)) c.regs.pc)
 
   -- PDIR: "low twelve bits drop"
   pdir_aligned : (c : Cpu) → Leaves (DirectoryAligned s) (directed c)

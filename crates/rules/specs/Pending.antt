@@ -1,6 +1,7 @@
 -- Document 02, item 1: the words of its laws (proofs/PendingLaws.antt, NoneLost.antt).
 use Rattle.std.specs.Prelude.{Bool, true, false, List, [], ◌∷◌, ◌++◌, ◌≡◌, Option, Some}
 use Rattle.paging.specs.Event.{Event, delivered}
+use Rattle.paging.specs.TrapCode.{code_number}
 use Rattle.rules.specs.declared.Key.{Key}
 use Rattle.rules.specs.declared.Cpu.{Cpu}
 use Rattle.rules.specs.declared.Interrupt.{Interrupt}
@@ -28,7 +29,7 @@ module _ {B : Type 0} (i : Interrupt) where
   -- "its delivery": the last event of the step
   pub record Delivered (r : Stepped B) : Type 0 where
     pub earlier : List Event
-    pub last : r.events ≡ earlier ++ delivered (interrupt_code i) ∷ []
+    pub last : r.events ≡ earlier ++ delivered (code_number (interrupt_code i)) ∷ []
 
   -- a mark after a step, where c is the record after rules 1 to 3: as it was, or the interrupt was due, is delivered, and the mark is clear
   pub data PendingAfter (c : Cpu) (r : Stepped B) : Type 0 where

@@ -3,6 +3,7 @@ use Rattle.std.specs.Prelude.{ℕ, ◌+◌, false, List, [], ◌∷◌, ◌++◌
 use Rattle.paging.specs.declared.Space.{Space}
 use Rattle.floating_decode.specs.Opcodes.{floating_decode_of}
 use Rattle.paging.specs.declared.TrapCode.TheVariants.{Finst}
+use Rattle.paging.specs.TrapCode.{code_number}
 use Rattle.paging.specs.Event.{Event, delivered}
 use Rattle.paging.specs.Translate.{Translator}
 use Rattle.rules.specs.declared.Cpu.{Cpu}
@@ -39,11 +40,11 @@ unfoldable pub settle_tree : (size console_size : ℕ) → Cpu → Out → Tree 
 unfolding fault_tree trap_tree system_tree
 settle_tree size console_size c (fine r vs) = final (with_regs r c) vs nothing
 settle_tree size console_size c (unfetched f) = fault_tree c f c.regs.pc
-settle_tree size console_size c (trap code) = trap_tree c code (next_pc c)
+settle_tree size console_size c (trap code) = trap_tree c (code_number code) (next_pc c)
 settle_tree size console_size c (refused f) = fault_tree c f (next_pc c)
 settle_tree size console_size c (system op) = system_tree size console_size op c
 settle_tree size console_size c (floated r v vs) = final (with_floats v (with_regs r c)) vs nothing
-settle_tree size console_size c (undecoded w) = trap_tree c Finst (next_pc c)
+settle_tree size console_size c (undecoded w) = trap_tree c (code_number Finst) (next_pc c)
 
 -- "waiting ends"
 abbrev pub awake : Cpu → Cpu
@@ -52,7 +53,7 @@ awake c = with_system (with_waiting false c.system) c
 -- c is the record after rules 1 to 3
 -- an interrupt: "waiting ends and the trap is delivered"; "its delivery clears its mark"
 abbrev pub interrupt_tree : Interrupt → Cpu → Tree Final
-interrupt_tree i c = deliver_tree (awake c) (cleared i c.clock.pending) (interrupt_code i) c.regs.pc
+interrupt_tree i c = deliver_tree (awake c) (cleared i c.clock.pending) (code_number (interrupt_code i)) c.regs.pc
 
 -- rules 4 and 5: "If something is due, waiting ends and the trap is delivered; the step ends. If waiting, the step ends. Else fetch"
 unfoldable pub due_tree : Option Interrupt → (size console_size : ℕ) → Cpu → Tree Final

@@ -9,7 +9,7 @@ use Rattle.paging.specs.declared.Access.TheVariants.{Read}
 use Rattle.paging.specs.declared.Cause.TheVariants.{AddressBeyondMemory}
 use Rattle.paging.specs.Walk.{bit}
 use Rattle.paging.specs.declared.TrapCode.TheVariants.{Fmem, Fpriv}
-use Rattle.paging.specs.TrapCode.{USER}
+use Rattle.paging.specs.TrapCode.{code_number, USER}
 use Rattle.rules.specs.declared.Stop.TheVariants.{Halted}
 use Rattle.rules.specs.declared.Cpu.{Cpu}
 use Rattle.rules.specs.Record.{set_pc, set_sp, with_sp, with_regs, with_system, with_clock, with_stop, with_written, with_usp, with_ksp, with_pdir}
@@ -97,5 +97,5 @@ unfoldable pub system_tree : (size console_size : ℕ) → SysOp → Cpu → Tre
 unfolding privileged_tree trap_tree
 system_tree size console_size op c =
     if c.system.user
-    then trap_tree c Fpriv (next_pc c)
+    then trap_tree c (code_number Fpriv) (next_pc c)
     else privileged_tree size console_size op c (with_regs (moved c.regs) c)

@@ -7,7 +7,6 @@ use Rattle.word.specs.Word.{difference}
 use Rattle.memory.specs.Memory.{load_n}
 use Rattle.paging.specs.declared.Access.TheVariants.{Read}
 use Rattle.paging.specs.Answer.{Answer}
-use Rattle.paging.specs.declared.TrapCode.{TrapCode}
 use Rattle.paging.specs.Walk.{is_write}
 use Rattle.paging.specs.Event.{Event}
 use Rattle.paging.specs.Translate.{Outcome}
@@ -57,7 +56,7 @@ module _ (k : Cpu) (con : List ℕ) where
     }
 
   -- ---- a trap frame is stored through the writes of its own two slots
-  module _ (c : Cpu) (left : Pending) (code : TrapCode) (pc : ℕ) where
+  module _ (c : Cpu) (left : Pending) (code pc : ℕ) where
     abbrev framing : Outcome Kept Replied → List Grant → State Kept
     framing o gs = run (framed c left code pc o.answer.reply) o.mem o.buffer (o.answer.grants ++ gs)
 

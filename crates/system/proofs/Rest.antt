@@ -12,6 +12,7 @@ use Rattle.decode.specs.declared.PlainOp.{PlainOp}
 use Rattle.decode.specs.declared.PlainOp.TheVariants.{Halt, Cli, Sti, Bin, Ssp, Ivec, Time, Lvad, Lusp, Susp, Msiz, Idle}
 use Rattle.decode.specs.declared.SysOp.TheVariants.{Plain}
 use Rattle.paging.specs.declared.TrapCode.TheVariants.{Fpriv}
+use Rattle.paging.specs.TrapCode.{code_number}
 use Rattle.mmu.specs.Good.{Good}
 use Rattle.rules.specs.declared.Cpu.{Cpu}
 use Rattle.rules.specs.Record.{put_a, with_written, with_clock, with_timeout}
@@ -72,10 +73,10 @@ plain_ends size console_size c op g e f = finishes_ended (rw e at f ∙ sym (com
 -- ---- "privilege"
 
 module _ (size console_size : ℕ) (op : SysOp) (c : Cpu) {m con l : List ℕ} {x : Cpu} {m' con' l' : List ℕ} where
-  pub system_denied : {n : ℕ} → c.system.user ≡ true → n ≡ next_pc c → Finishes (trap_tree c Fpriv n) c m con l x m' con' l'
+  pub system_denied : {number n : ℕ} → c.system.user ≡ true → number ≡ code_number Fpriv → n ≡ next_pc c → Finishes (trap_tree c number n) c m con l x m' con' l'
       → Finishes (system_tree size console_size op c) c m con l x m' con' l'
   unfolding system_tree
-  system_denied e p h = finishes_then _ _ e (at_next (trap_tree c Fpriv) c p h)
+  system_denied e q p h = finishes_then _ _ e (at_next (trap_tree c (code_number Fpriv)) c p (rw q at h))
 
   pub system_allowed : c.system.user ≡ false → Finishes (privileged_tree size console_size op c (moved_on c)) c m con l x m' con' l'
       → Finishes (system_tree size console_size op c) c m con l x m' con' l'

@@ -78,7 +78,8 @@ pub fn system(
         c mem.old console.old tlb.old result mem.new console.new tlb.new }
 {
     if c.system.user {
-        return trap::trap(c, TrapCode::Fpriv, trap::next_pc(c), mem, tlb, hint);
+        let code = paging::code_number(TrapCode::Fpriv);
+        return trap::trap(c, code, trap::next_pc(c), mem, tlb, hint);
     }
     privileged(c, op, mem, console, tlb, hint)
 }

@@ -9,7 +9,7 @@ use Rattle.word.specs.Word.{difference}
 use Rattle.memory.specs.Memory.{store_n}
 use Rattle.paging.specs.Answer.{Answer}
 use Rattle.paging.specs.declared.Fault.{Fault}
-use Rattle.paging.specs.declared.TrapCode.{TrapCode}
+use Rattle.paging.specs.TrapCode.{code_number}
 use Rattle.mmu.specs.Good.{Good}
 use Rattle.mmu.specs.Translates.{Translates}
 use Rattle.rules.specs.declared.Cpu.{Cpu}
@@ -24,7 +24,7 @@ use Rattle.contracts.proofs.Steps.{finishes_ended, finishes_first, finishes_seco
 
 -- ---- a delivery
 
-module _ (c : Cpu) (left : Pending) (code : TrapCode) (pc : ℕ) {top first second : ℕ} (h : top ≡ kernel_sp c) (p : first ≡ difference top 8) (q : second ≡ difference top 16) where
+module _ (c : Cpu) (left : Pending) (code pc : ℕ) {top first second : ℕ} (h : top ≡ kernel_sp c) (p : first ≡ difference top 8) (q : second ≡ difference top 16) where
   -- the code's slots are the rules'
   at_slots : {m con l : List ℕ} {x : Cpu} {m' con' l' : List ℕ} → Finishes (ask (slots first second) (framed c left code pc)) c m con l x m' con' l'
       → Finishes (deliver_tree c left code pc) c m con l x m' con' l'
@@ -55,7 +55,7 @@ module _ (c : Cpu) (left : Pending) (code : TrapCode) (pc : ℕ) {top first seco
 
 -- ---- "If iena = 0 a fault or TRAP stops with 2"
 
-module _ (c : Cpu) (code : TrapCode) (pc : ℕ) {m con l : List ℕ} {x : Cpu} where
+module _ (c : Cpu) (code pc : ℕ) {m con l : List ℕ} {x : Cpu} where
   pub trap_delivered : {m' con' l' : List ℕ} → c.system.iena ≡ true → Finishes (deliver_tree c c.clock.pending code pc) c m con l x m' con' l'
       → Finishes (trap_tree c code pc) c m con l x m' con' l'
   unfolding trap_tree
@@ -69,9 +69,9 @@ module _ (c : Cpu) (code : TrapCode) (pc : ℕ) {m con l : List ℕ} {x : Cpu} w
 
 -- ---- a denied access sets vadr and the cause
 
-pub fault_trapped : {c y : Cpu} (f : Fault) (pc : ℕ) {m con l : List ℕ} {x : Cpu} {m' con' l' : List ℕ} → y ≡ with_fault f c
-    → Finishes (trap_tree y f.code pc) y m con l x m' con' l' → Finishes (fault_tree c f pc) c m con l x m' con' l'
+pub fault_trapped : {c y : Cpu} (f : Fault) (pc : ℕ) {n : ℕ} {m con l : List ℕ} {x : Cpu} {m' con' l' : List ℕ} → n ≡ code_number f.code → y ≡ with_fault f c
+    → Finishes (trap_tree y n pc) y m con l x m' con' l' → Finishes (fault_tree c f pc) c m con l x m' con' l'
 unfolding fault_tree
-fault_trapped f pc {m} {con} {l} {x} {m'} {con'} {l'} e h =
-    let g = subst (λ z. Finishes (trap_tree z f.code pc) z m con l x m' con' l') e h in
+fault_trapped f pc {m = m} {con} {l} {x} {m'} {con'} {l'} q e h =
+    let g = subst (λ z. Finishes (trap_tree z (code_number f.code) pc) z m con l x m' con' l') e (rw q at h) in
     record { same = g.same; good = g.good }

@@ -9,7 +9,7 @@ ghost use Rattle.contracts.specs.Contract.{Finishes};
 
 use memory::Size;
 use mmu::Bus;
-use paging::{Access, Fault, TrapCode};
+use paging::{Access, Fault};
 use rules::{Cpu, Pending, Stop};
 
 // ---- parts of the record
@@ -57,7 +57,7 @@ fn saved_usp(c: Cpu) -> u32
     c.system.usp
 }
 
-fn trap_code(c: Cpu, code: TrapCode) -> u32
+fn trap_code(c: Cpu, code: u16) -> u32
     ensures { result ≡ code_of c code }
 {
     if c.system.user {
@@ -87,7 +87,7 @@ fn entered(c: Cpu, left: Pending) -> Cpu
 pub fn deliver(
     c: Cpu,
     left: Pending,
-    code: TrapCode,
+    code: u16,
     pc: u32,
     mem: &mut [u8],
     tlb: &mut [u64],
@@ -122,7 +122,7 @@ pub fn deliver(
 // A fault without an address, or TRAP.
 pub fn trap(
     c: Cpu,
-    code: TrapCode,
+    code: u16,
     pc: u32,
     mem: &mut [u8],
     tlb: &mut [u64],
@@ -149,5 +149,6 @@ pub fn fault(
     requires { Good (length mem.old) c.space.pdir tlb.old }
     ensures { (con : List ℕ) → Finishes (fault_tree c f pc) c mem.old con tlb.old result mem.new con tlb.new }
 {
-    trap(with_fault(c, f), f.code, pc, mem, tlb, hint)
+    let code = paging::code_number(f.code);
+    trap(with_fault(c, f), code, pc, mem, tlb, hint)
 }

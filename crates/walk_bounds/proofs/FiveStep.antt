@@ -6,7 +6,7 @@ use lib.Dec.{ltb}
 use Rattle.decode.specs.declared.SysOp.{SysOp}
 use Rattle.decode.specs.declared.SysOp.TheVariants.{Plain, Rti, Bout, Pdir, Spag}
 use Rattle.paging.specs.declared.Cause.TheVariants.{AddressBeyondMemory}
-use Rattle.paging.specs.declared.TrapCode.{TrapCode}
+use Rattle.paging.specs.TrapCode.{code_number}
 use Rattle.paging.specs.declared.TrapCode.TheVariants.{Fmem}
 use Rattle.paging.specs.declared.Access.TheVariants.{Read}
 use Rattle.paging.specs.declared.Fault.{Fault}
@@ -36,7 +36,7 @@ ends_within : {n : ℕ} {e : Final} → AtMost n (done e)
 ends_within = within_leaf (omega arith)
 
 -- the two slots of a frame
-deliver_within : (c : Cpu) (left : Pending) (code : TrapCode) (pc : ℕ) → AtMost 2 (deliver_tree c left code pc)
+deliver_within : (c : Cpu) (left : Pending) (code pc : ℕ) → AtMost 2 (deliver_tree c left code pc)
 unfolding deliver_tree
 deliver_within c left code pc = within_ask 0 (omega arith) go
   where
@@ -45,13 +45,13 @@ deliver_within c left code pc = within_ask 0 (omega arith) go
     go (denied f) = ends_within
 
 -- a trap, or a stop with 2
-trap_within : (c : Cpu) (code : TrapCode) (pc : ℕ) → AtMost 2 (trap_tree c code pc)
+trap_within : (c : Cpu) (code pc : ℕ) → AtMost 2 (trap_tree c code pc)
 unfolding trap_tree
 trap_within c code pc = within_if c.system.iena (deliver_within c c.clock.pending code pc) ends_within
 
 fault_within : (c : Cpu) (f : Fault) (pc : ℕ) → AtMost 2 (fault_tree c f pc)
 unfolding fault_tree
-fault_within c f pc = trap_within (with_fault f c) f.code pc
+fault_within c f pc = trap_within (with_fault f c) (code_number f.code) pc
 
 -- a word that RTI reads; denied, a frame has two slots
 read_within : (c : Cpu) {n va : ℕ} {k : ℕ → Tree Final} → ((v : ℕ) → AtMost (suc (suc n)) (k v)) → AtMost (suc (suc (suc n))) (ask (access Read 4 va) (or_fault c k))
@@ -75,23 +75,23 @@ privileged_within size console_size Spag old c = ends_within
 system_within : (size console_size : ℕ) (op : SysOp) (c : Cpu) → AtMost 4 (system_tree size console_size op c)
 unfolding system_tree
 system_within size console_size op c =
-    within_if c.system.user (within_more 2 4 (omega arith) (trap_within c Fpriv (next_pc c))) (privileged_within size console_size op c (with_regs (moved c.regs) c))
+    within_if c.system.user (within_more 2 4 (omega arith) (trap_within c (code_number Fpriv) (next_pc c))) (privileged_within size console_size op c (with_regs (moved c.regs) c))
 
 -- whatever the instruction came to
 settle_within : (size console_size : ℕ) (c : Cpu) (x : Out) → AtMost (rest_of x) (settle_tree size console_size c x)
 unfolding settle_tree
 settle_within size console_size c (fine r vs) = ends_within
 settle_within size console_size c (unfetched f) = fault_within c f c.regs.pc
-settle_within size console_size c (trap code) = trap_within c code (next_pc c)
+settle_within size console_size c (trap code) = trap_within c (code_number code) (next_pc c)
 settle_within size console_size c (refused f) = fault_within c f (next_pc c)
 settle_within size console_size c (system op) = system_within size console_size op c
 settle_within size console_size c (floated r v vs) = ends_within
-settle_within size console_size c (undecoded w) = within_more 2 3 (omega arith) (trap_within c Finst (next_pc c))
+settle_within size console_size c (undecoded w) = within_more 2 3 (omega arith) (trap_within c (code_number Finst) (next_pc c))
 
 -- an interrupt is due, or nothing
 due_within : (due : Option Interrupt) (size console_size : ℕ) (c : Cpu) → AtMost 5 (due_tree due size console_size c)
 unfolding due_tree
-due_within (Some i) size console_size c = within_more 2 5 (omega arith) (deliver_within (awake c) (cleared i c.clock.pending) (interrupt_code i) c.regs.pc)
+due_within (Some i) size console_size c = within_more 2 5 (omega arith) (deliver_within (awake c) (cleared i c.clock.pending) (code_number (interrupt_code i)) c.regs.pc)
 due_within None size console_size c =
     within_if c.system.waiting ends_within (within_then 5 (settle_tree size console_size c) (executed_within c) (settle_within size console_size c))
 

@@ -2,7 +2,6 @@
 -- Memory and tables are as in Pages: pdir 0, page 1 at frame 0, its directory word at 0 and its table word at 4; code at 0x1100.
 use Rattle.std.specs.Prelude.{ℕ, ◌≡◌, refl, true, false, List, [], ◌∷◌, ◌++◌}
 use Rattle.paging.specs.declared.Entry.{Entry}
-use Rattle.paging.specs.declared.TrapCode.TheVariants.{Fsys}
 use Rattle.paging.specs.Event.{Event, walked, kept, emptied, marked, stored, delivered}
 use Rattle.paging.specs.Translate.{buffered, reader}
 use Rattle.rules.specs.declared.Cpu.{Cpu}
@@ -137,7 +136,7 @@ PDIR_faults = (refl, refl)
 -- TRAP: the slot of pc, the slot of the code, and the frame, by its code without 16; ksp is 0x1200
 pub TRAP_delivers : Holds
     (line (in_user (put_ksp 0x1200 (enabled kernel))) (tables 0 0 0 0 0xa9) (entry 1 0 true true ∷ []) (entry 1 0 true true ∷ [])
-    (stored 0x1f8 4 ∷ stored 0x1f0 4 ∷ delivered Fsys ∷ []))
+    (stored 0x1f8 4 ∷ stored 0x1f0 4 ∷ delivered 5 ∷ []))
 unfolding Holds
 TRAP_delivers = (refl, refl)
 
@@ -178,6 +177,6 @@ unfolding reader_events
 reader_PDIR = refl
 
 -- TRAP: the fetch, and both slots
-pub reader_TRAP : reader_events (enabled kernel) (tables 0x27 0x67 0 0 0xa9) ≡ walked ∷ walked ∷ walked ∷ stored 0x1f8 4 ∷ stored 0x1f0 4 ∷ delivered Fsys ∷ []
+pub reader_TRAP : reader_events (enabled kernel) (tables 0x27 0x67 0 0 0xa9) ≡ walked ∷ walked ∷ walked ∷ stored 0x1f8 4 ∷ stored 0x1f0 4 ∷ delivered 5 ∷ []
 unfolding reader_events
 reader_TRAP = refl

@@ -5,8 +5,8 @@ use Rattle.execute.proofs.look_ahead.Goals as goal
 
 pub load4-w-requires : goal.load4-w-requires
 load4-w-requires c =
-    rw c.bytes.ensures (ahead_within _ _ _ _ _ c.args.bus.now.good c.probe.ensures c.in_ok-q.was)
+    ahead_within _ _ _ _ _ c.requires c.probe.ensures c.in_ok-q.was
 
 pub returns-then-is_floating : goal.returns-then-is_floating
 returns-then-is_floating c =
-    executes_ahead _ _ _ _ _ c.args.bus.now.good c.probe.ensures c.in_ok-q.was _ _ refl (rw c.bytes.ensures at c.load4-w.ensures) (sym c.is_floating.ensures ∙ c.if-is_floating.true)
+    executes_ahead _ _ _ _ _ c.requires c.probe.ensures c.in_ok-q.was _ _ refl c.load4-w.ensures (sym c.is_floating.ensures ∙ c.if-is_floating.true)

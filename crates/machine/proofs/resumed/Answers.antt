@@ -1,13 +1,11 @@
--- A floating instruction that was found ahead is under way below the limit (`floating_next`), and none is at it (`none_left`); else the loop is entered. The bus that
--- looked ahead left memory and buffer as they were (`rules`).
-use borrow.Author.Rules.{rules}
+-- A floating instruction that was found ahead is under way below the limit (`floating_next`), and none is at it (`none_left`); else the loop is entered.
 use Rattle.machine.proofs.ResumedLaws.{floating_next, none_left}
 use Rattle.machine.proofs.resumed.Goals as goal
 
 pub returns-then-s-limit : goal.returns-then-s-limit
 returns-then-s-limit c =
-    rw c.ended.ensures (search (rules, floating_next _ _ _ _ _ _ c.requires.0 c.look_ahead-a.ensures c.in-Some.is c.if-s-limit.true))
+    rw c.ended.ensures (floating_next _ _ _ _ _ _ c.requires.0 c.look_ahead-a.ensures c.in-Some.is c.if-s-limit.true)
 
 pub returns : goal.returns
 returns c =
-    rw c.fine.ensures (search (rules, none_left c.args.s c.args.user c.args.space c.args.limit _ _ c.requires.0 c.requires.1 c.if-s-limit.false))
+    rw c.fine.ensures (none_left _ _ _ _ _ _ c.requires.0 c.requires.1 c.if-s-limit.false)

@@ -16,7 +16,7 @@ returns-in-Unfetched c =
 
 pub returns-in-Trap : goal.returns-in-Trap
 returns-in-Trap c =
-    settle_trap _ _ _ _ c.in-Trap.is c.next_pc.ensures (c.trap.ensures _)
+    settle_trap _ _ _ _ c.in-Trap.is c.code_number-number.ensures c.next_pc.ensures (c.trap.ensures _)
 
 pub returns-in-Refused : goal.returns-in-Refused
 returns-in-Refused c =
@@ -29,4 +29,4 @@ returns-in-System c =
 
 pub returns-in-Undecoded : goal.returns-in-Undecoded
 returns-in-Undecoded c =
-    settle_undecoded _ _ _ _ c.in-Undecoded.is c.next_pc-in-Undecoded.ensures (c.trap-in-Undecoded.ensures _)
+    settle_undecoded _ _ _ _ c.in-Undecoded.is c.code_number.ensures c.next_pc-in-Undecoded.ensures (c.trap-in-Undecoded.ensures _)

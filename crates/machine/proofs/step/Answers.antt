@@ -1,6 +1,7 @@
 -- A step by rules 4 and 5: an interrupt is due and delivered, the machine waits, or one instruction of the machine's mode is made and settled.
 use native.Mathlib.Omega.{arith}
-use mathlib.Core.Path.{refl}
+use mathlib.Core.Path.{refl, ap, ◌∙◌}
+use Rattle.paging.specs.TrapCode.{code_number}
 use Rattle.machine.proofs.StepLaws.{good_ticked, good_awake, step_due, step_waits, step_executes, step_executes_old}
 use Rattle.machine.proofs.BurstSteps.{old_end}
 use Rattle.machine.proofs.step.Goals as goal
@@ -11,7 +12,7 @@ deliver-requires c =
 
 pub returns-in-Some : goal.returns-in-Some
 returns-in-Some c =
-    step_due _ _ c.tick-t.ensures c.due_trap.ensures c.in-Some.is c.cleared-left.ensures c.from-code.ensures c.awake.ensures (c.deliver.ensures _)
+    step_due _ _ c.tick-t.ensures c.due_trap.ensures c.in-Some.is c.cleared-left.ensures (c.code_number-code.ensures ∙ ap code_number c.from.ensures) c.awake.ensures (c.deliver.ensures _)
 
 pub returns-then-t : goal.returns-then-t
 returns-then-t c =

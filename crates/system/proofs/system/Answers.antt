@@ -8,4 +8,4 @@ returns c =
 
 pub returns-then-c : goal.returns-then-c
 returns-then-c c =
-    system_denied _ _ _ _ c.if-c.true c.next_pc.ensures (c.trap.ensures _)
+    system_denied _ _ _ _ c.if-c.true c.code_number-code.ensures c.next_pc.ensures (c.trap.ensures _)

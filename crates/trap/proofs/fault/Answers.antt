@@ -4,4 +4,4 @@ use Rattle.trap.proofs.fault.Goals as goal
 
 pub returns : goal.returns
 returns c =
-    λ con. fault_trapped _ _ c.with_fault.ensures (c.trap.ensures con)
+    λ con. fault_trapped _ _ c.code_number-code.ensures c.with_fault.ensures (c.trap.ensures con)
