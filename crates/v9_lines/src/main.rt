@@ -26,7 +26,7 @@ fn skip(n: usize) -> Option<()> {
 
 // Reads a file, if all of it is there, and keeps as much as fits.
 fn read_file(file: &mut [u8; LONGEST]) -> Option<&[u8]>
-    ensures { IfSome result (λ kept. length kept.now ≤ 32785) }
+    ensures { IfSome result (λ kept. length kept.now ≤ length file.old) }
 {
     let mut size = [0; 4];
     if io::read_full(0, &mut size) < 4 {
