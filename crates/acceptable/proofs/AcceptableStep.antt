@@ -135,7 +135,7 @@ module _ (size keys console_size : ℕ) (s : Space) (d : Directory size s.pdir) 
     prints = λ c g e. appended_acceptable c g.passes e;
     directs = λ c g e. directed_acceptable c g.passes e;
     pages = λ c g. at_leaf (record { passes = g.passes; directory = g.directory });
-    delivers = λ c code pc g. at_ask (frame_acceptable c c.clock.pending code pc g.passes);
+    delivers = λ c code pc g. at_ask (frame_acceptable c c.clock.pending _ pc g.passes);
     reads = λ l. at_ask l;
   }
 

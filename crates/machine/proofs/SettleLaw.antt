@@ -3,7 +3,6 @@ use Prim.Native.Nat.{ℕ}
 use mathlib.Core.List.{List, []}
 use mathlib.Core.Path.{◌≡◌, refl, ap, ◌∙◌}
 use Rattle.paging.specs.declared.TrapCode.TheVariants.{Finst}
-use Rattle.paging.specs.TrapCode.{code_number}
 use Rattle.mmu.specs.Translates.{Kept, Result, translator}
 use Rattle.rules.specs.declared.Cpu.{Cpu}
 use Rattle.rules.specs.Tree.{Tree, bind, Grant, store_all, interpret}
@@ -24,11 +23,11 @@ module _ (size console_size : ℕ) (c : Cpu) (con : List ℕ) where
   unfolding settle_tree made_by interpret finished store_all
   settle_by (fine r vs) gs m es = refl
   settle_by (unfetched f) gs m es = (every_fault (fresh_shapes c con size console_size) c f c.regs.pc tt).fresh m es gs
-  settle_by (trap code) gs m es = (every_trap (fresh_shapes c con size console_size) c (code_number code) (next_pc c) tt).fresh m es gs
+  settle_by (trap code) gs m es = (every_trap (fresh_shapes c con size console_size) c code (next_pc c) tt).fresh m es gs
   settle_by (refused f) gs m es = (every_fault (fresh_shapes c con size console_size) c f (next_pc c) tt).fresh m es gs
   settle_by (system op) gs m es = (every_system (fresh_shapes c con size console_size) op c tt).fresh m es gs
   settle_by (floated r v vs) gs m es = refl
-  settle_by (undecoded w) gs m es = (every_trap (fresh_shapes c con size console_size) c (code_number Finst) (next_pc c) tt).fresh m es gs
+  settle_by (undecoded w) gs m es = (every_trap (fresh_shapes c con size console_size) c Finst (next_pc c) tt).fresh m es gs
 
   -- an instruction's tree and the rest, from any memory and buffer
   pub settle_law : (t : Tree Out) (m : List ℕ) (es : Kept)

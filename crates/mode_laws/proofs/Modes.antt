@@ -223,7 +223,7 @@ module _ (c : Cpu) where
     prints = λ x g e. at_leaf g;
     directs = λ x g e. at_leaf g;
     pages = λ x g. at_leaf g;
-    delivers = λ x code pc g. at_ask (frame_mode x x.clock.pending code pc g);
+    delivers = λ x code pc g. at_ask (frame_mode x x.clock.pending _ pc g);
     reads = λ l. at_ask l;
   }
 

@@ -77,7 +77,7 @@ module _ (c : Cpu) where
     prints = λ x g e. at_leaf (after_then g (keeps refl refl));
     directs = λ x g e. at_leaf (after_then g (keeps refl refl));
     pages = λ x g. at_leaf (after_then g (keeps refl refl));
-    delivers = λ x code pc g. leaves_after g (delivery_keeps x x.clock.pending code pc);
+    delivers = λ x code pc g. leaves_after g (delivery_keeps x x.clock.pending _ pc);
     reads = λ l. at_ask l;
   }
 

@@ -6,6 +6,8 @@ pub mod RunInvariant
 pub mod OldMode
 pub mod StepTree
 pub mod StepSpace
+pub mod DeliveredCodes
+pub mod TrapEvents
 pub mod Kept
 pub mod PendingLaws
 pub mod NoneLost

@@ -109,7 +109,7 @@ module _ (c : Cpu) where
     prints = λ x g e. at_leaf (both_kept g);
     directs = λ x g e. at_leaf (both_kept g);
     pages = λ x g. at_leaf (both_kept g);
-    delivers = λ x code pc g. at_ask (frame_keeps x code pc g);
+    delivers = λ x code pc g. at_ask (frame_keeps x _ pc g);
     reads = λ l. at_ask l;
   }
 

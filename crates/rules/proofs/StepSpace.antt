@@ -53,7 +53,7 @@ module _ (s : Space) (h : s.pdir % 4 ≡ 0) where
     prints = λ c g e. at_leaf h;
     directs = λ c g e. pdir_aligned c;
     pages = λ c g. at_leaf g;
-    delivers = λ c code pc g. at_ask (frame_aligned c c.clock.pending code pc);
+    delivers = λ c code pc g. at_ask (frame_aligned c c.clock.pending _ pc);
     reads = λ l. at_ask l;
   }
 

@@ -12,6 +12,7 @@ use Rattle.decode.specs.declared.SysOp.TheVariants.{Plain, Rti, Bout, Pdir, Spag
 use Rattle.paging.specs.declared.Access.TheVariants.{Read}
 use Rattle.paging.specs.declared.Cause.TheVariants.{AddressBeyondMemory}
 use Rattle.paging.specs.declared.Fault.{Fault}
+use Rattle.paging.specs.declared.TrapCode.{TrapCode}
 use Rattle.paging.specs.declared.TrapCode.TheVariants.{Finst, Fmem, Fpriv}
 use Rattle.paging.specs.TrapCode.{code_number}
 use Rattle.rules.specs.declared.Cpu.{Cpu}
@@ -45,7 +46,7 @@ pub record Shapes (size console_size : ℕ) (T : Tree Final → Type 0) (G : Cpu
   pub directs : (c : Cpu) → G c → ltb c.regs.a size ≡ true → T (directed c)
   pub pages : (c : Cpu) → G c → T (spag_tree c)
   -- accesses: a fault's or TRAP's frame, stored or not; RTI's reads
-  pub delivers : (c : Cpu) (code pc : ℕ) → G c → T (deliver_tree c c.clock.pending code pc)
+  pub delivers : (c : Cpu) (code : TrapCode) (pc : ℕ) → G c → T (deliver_tree c c.clock.pending (code_number code) pc)
   pub reads : {va : ℕ} {rest : Reply → Tree Final} → ((r : Reply) → T (rest r)) → T (ask (access Read 4 va) rest)
 
 -- a choice of two trees, whose test may tell something
@@ -56,15 +57,19 @@ choice T false l r = r
 -- ---- what follows an instruction
 
 module _ {size console_size : ℕ} {T : Tree Final → Type 0} {G : Cpu → Type 0} (shapes : Shapes size console_size T G) where
-  -- a trap, or a stop with 2
-  pub every_trap : (c : Cpu) (code pc : ℕ) → G c → T (trap_tree c code pc)
+  -- a trap of any number, where T holds of its delivery, or a stop with 2
+  pub numbered_trap : (c : Cpu) (code pc : ℕ) → T (deliver_tree c c.clock.pending code pc) → G c → T (trap_tree c code pc)
   unfolding trap_tree
-  every_trap c code pc g = choice T c.system.iena (λ e. shapes.delivers c code pc g) (shapes.masks c g)
+  numbered_trap c code pc d g = choice T c.system.iena (λ e. d) (shapes.masks c g)
+
+  -- a trap by its code
+  pub every_trap : (c : Cpu) (code : TrapCode) (pc : ℕ) → G c → T (trap_tree c (code_number code) pc)
+  every_trap c code pc g = numbered_trap c (code_number code) pc (shapes.delivers c code pc g) g
 
   -- a fault with its address
   pub every_fault : (c : Cpu) (f : Fault) (pc : ℕ) → G c → T (fault_tree c f pc)
   unfolding fault_tree
-  every_fault c f pc g = every_trap (with_fault f c) (code_number f.code) pc (shapes.on_fault c f g)
+  every_fault c f pc g = every_trap (with_fault f c) f.code pc (shapes.on_fault c f g)
 
   -- what follows a reply of RTI's reads
   or_fault_lem : (c : Cpu) {k : ℕ → Tree Final} → G c → ((v : ℕ) → T (k v)) → (r : Reply) → T (or_fault c k r)
@@ -85,7 +90,7 @@ module _ {size console_size : ℕ} {T : Tree Final → Type 0} {G : Cpu → Type
   pub every_system : (op : SysOp) (c : Cpu) → G c → T (system_tree size console_size op c)
   unfolding system_tree
   every_system op c g =
-      choice T c.system.user (λ e. every_trap c (code_number Fpriv) (next_pc c) g) (every_privileged op c (with_regs (moved c.regs) c) g (shapes.on_moved c g))
+      choice T c.system.user (λ e. every_trap c Fpriv (next_pc c) g) (every_privileged op c (with_regs (moved c.regs) c) g (shapes.on_moved c g))
 
 -- ---- a whole step, where T claims P of every leaf, and O is known of how the instruction ends
 
@@ -97,11 +102,11 @@ module _ {size console_size : ℕ} {P : Final → Type 0} {G : Cpu → Type 0} (
   unfolding settle_tree
   every_settle c g (fine r vs) o = at_leaf (completes c r vs g o)
   every_settle c g (unfetched f) o = every_fault shapes c f c.regs.pc g
-  every_settle c g (trap code) o = every_trap shapes c (code_number code) (next_pc c) g
+  every_settle c g (trap code) o = every_trap shapes c code (next_pc c) g
   every_settle c g (refused f) o = every_fault shapes c f (next_pc c) g
   every_settle c g (system op) o = every_system shapes op c g
   every_settle c g (floated r v vs) o = at_leaf (floats c r v vs g o)
-  every_settle c g (undecoded w) o = every_trap shapes c (code_number Finst) (next_pc c) g
+  every_settle c g (undecoded w) o = every_trap shapes c Finst (next_pc c) g
 
   -- an interrupt is due, or nothing; c is the record after rules 1 to 3
   pub every_step : (due : Option Interrupt) (c : Cpu) → G c → ((i : Interrupt) → due ≡ Some i → Leaves P (interrupt_tree i c)) → Leaves O (executed_tree c)

@@ -74,7 +74,8 @@ module _ (k : Cpu) (con : List ℕ) where
         second_slot_lem p o.events t t.answer gs
     first_slot_lem va o (Err f) gs = (fresh_final (with_stop NoFrame c) none).fresh o.mem o.buffer gs
 
-    fresh_deliver : Fresh (deliver_tree c left code pc)
+    -- of any number
+    pub fresh_deliver : Fresh (deliver_tree c left code pc)
     unfolding deliver_tree interpret answered finished
     fresh_deliver = record {
       fresh = λ m es gs.
@@ -95,6 +96,6 @@ module _ (k : Cpu) (con : List ℕ) where
     prints = λ c g e. fresh_final _ _;
     directs = λ c g e. fresh_final _ _;
     pages = λ c g. fresh_final _ _;
-    delivers = λ c code pc g. fresh_deliver c c.clock.pending code pc;
+    delivers = λ c code pc g. fresh_deliver c c.clock.pending _ pc;
     reads = λ h. fresh_read 4 _ _ h;
   }
