@@ -1,22 +1,18 @@
 -- Document 01, "Traps": each delivery among the events of a step, and of a run, is of one of the trap codes.
-use Rattle.std.proofs.Common.{if◌then◌else◌}
 use Prim.Native.Nat.{ℕ}
-use mathlib.Core.Bool.{Bool, true, false, not, ◌&&◌, ◌||◌}
+use mathlib.Core.Bool.{Bool, true, false}
 use mathlib.Core.List.{List, [], ◌∷◌, ◌++◌}
 use mathlib.Core.Option.{Option, none, some}
-use lib.Dec.{ltb}
 use lib.ListN.{length}
-use Rattle.word.specs.Word.{cut}
-use Rattle.memory.specs.Memory.{load_n}
 use Rattle.paging.specs.declared.Access.{Access}
-use Rattle.paging.specs.declared.Access.TheVariants.{Read}
 use Rattle.paging.specs.declared.Entry.{Entry}
 use Rattle.paging.specs.declared.Space.{Space}
 use Rattle.paging.specs.Event.{Event, walked, kept, emptied, marked, stored, delivered, Words}
-use Rattle.paging.specs.Walk.{is_write, accessed, dirty, mark_events, tab_at, dir_at, present, allows, Found, fault, found, walk_frame, walk_table, walk_below, walk_dir, walk}
+use Rattle.paging.specs.Walk.{Found, fault, found, walk}
 use Rattle.paging.specs.Buffer.{hit, fits, keep_events, walk_events}
 use Rattle.paging.specs.Counting.{counting}
 use Rattle.paging.specs.Translate.{Request, page_of, paged_by, translate_by, walked_by, read_by, refilled, paged, buffered, reader, Translator}
+use Rattle.paging.proofs.CountedWalk.{Marks, no_mark, one_mark, SingleWalk, began, walk_single}
 use Rattle.rules.specs.declared.Key.{Key}
 use Rattle.rules.specs.Tree.{Tree, Grant, store_events, Ended, interpret}
 use Rattle.rules.specs.Trap.{Effect, none as nothing, set_space, deliver, print, Final}
@@ -47,39 +43,19 @@ pub coded_both : {es fs : List Event} → Coded es → Coded fs → Coded (es ++
 coded_both no_event q = q
 coded_both (one_more p c) q = one_more p (coded_both c q)
 
--- ---- a walk
+-- ---- a walk: it began, and set marks
 
-marks_coded : (k : Access) (w a : ℕ) → Coded (mark_events k w a)
-unfolding mark_events CodeIn
-marks_coded k w a = go (accessed w && (not (is_write k) || dirty w))
-  where
-    go : (b : Bool) → Coded (if b then [] else (marked a ∷ []))
-    go true = no_event
-    go false = one_more tt no_event
+marks_coded : {es : List Event} → Marks es → Coded es
+unfolding CodeIn
+marks_coded no_mark = no_event
+marks_coded (one_mark m) = one_more tt (marks_coded m)
 
-frame_coded : (b : Bool) (es : List Event) (m : List ℕ) (dw tw da ta : ℕ) → Coded es → Coded (walk_frame b es m dw tw da ta).events
-unfolding walk_frame
-frame_coded true es m dw tw da ta c = c
-frame_coded false es m dw tw da ta c = c
-
-table_coded : (b : Bool) (es : List Event) (m : List ℕ) (dw tw da ta : ℕ) (k : Access) (user : Bool) → Coded es → Coded (walk_table b es m dw tw da ta k user).events
-unfolding walk_table
-table_coded true es m dw tw da ta k user c = frame_coded (ltb (cut 4096 tw) (length m)) _ _ _ _ _ _ (coded_both c (marks_coded k tw ta))
-table_coded false es m dw tw da ta k user c = c
-
-below_coded : (b : Bool) (es : List Event) (m : List ℕ) (dw da page : ℕ) (k : Access) (user : Bool) → Coded es → Coded (walk_below b es m dw da page k user).events
-unfolding walk_below
-below_coded true es m dw da page k user c = table_coded (allows dw (load_n 4 m (tab_at dw page)) k user) _ _ _ _ _ _ _ _ c
-below_coded false es m dw da page k user c = c
-
-dir_coded : (b : Bool) (m : List ℕ) (dw da page : ℕ) (k : Access) (user : Bool) → Coded (walk_dir b m dw da page k user).events
-unfolding walk_dir CodeIn
-dir_coded true m dw da page k user = below_coded (ltb (cut 4096 dw) (length m)) _ _ _ _ _ _ _ (one_more tt (marks_coded Read dw da))
-dir_coded false m dw da page k user = one_more tt no_event
+single_coded : {es : List Event} → SingleWalk es → Coded es
+unfolding CodeIn
+single_coded (began m) = one_more tt (marks_coded m)
 
 walk_coded : (m : List ℕ) (pdir page : ℕ) (k : Access) (user : Bool) → Coded (walk m pdir page k user).events
-unfolding walk
-walk_coded m pdir page k user = dir_coded (present (load_n 4 m (dir_at pdir page))) _ _ _ _ _ _
+walk_coded m pdir page k user = single_coded (walk_single m pdir page k user)
 
 keep_coded : (room : Bool) (w : Words) → Coded (keep_events room w)
 unfolding keep_events CodeIn
